@@ -1,0 +1,24 @@
+-- Laws of tests that proofs in every crate cite. Assumes nothing.
+use mathlib.Core.Path.{_≡_, refl, sym}
+use mathlib.Core.Bool.{Bool, true, false, _&&_, _||_, not, false≢true}
+use mathlib.Core.Logic.{_⊎_, inl, inr}
+
+-- a test passed or failed
+pub either : (b : Bool) → (b ≡ true) ⊎ (b ≡ false)
+either true = inl refl
+either false = inr refl
+
+-- of two tests that passed together each passed
+pub both : (a b : Bool) → a && b ≡ true → (a ≡ true) × (b ≡ true)
+both true b p = (refl, p)
+both false b p = absurd (false≢true p)
+
+-- of two tests of which none passed each failed
+pub neither : (a b : Bool) → a || b ≡ false → (a ≡ false) × (b ≡ false)
+neither true b p = absurd (false≢true (sym p))
+neither false b p = (refl, p)
+
+-- a test has one result
+pub not-both : (b : Bool) → b ≡ true → b ≡ false → ⊥
+not-both true p q = false≢true (sym q)
+not-both false p q = false≢true p

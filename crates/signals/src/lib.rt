@@ -1,0 +1,60 @@
+// The signals of HWPE traces as they are recorded, and the refusals that every call of the tool shares.
+//
+// Writes out "Traces as recorded" and "Refusal numbers" of document 01. `stream` and `memory` read the two control bytes.
+pub mod memory;
+pub mod stream;
+
+ghost use mathlib.Core.Path.{_≡_};
+ghost use Rattle.signals.specs.Refusals.{numberOf};
+
+// How many cycles a trace may hold.
+pub const MAX_CYCLES: usize = 65536;
+
+// The largest strobe of a 32-bit word: a bit for each byte.
+pub const MAX_STRB: u8 = 15;
+
+// What a stream carries in one cycle: a word, and a strobe bit for each of its bytes.
+pub struct Payload {
+    pub data: u32,
+    pub strb: u8,
+}
+
+// What is wrong with a refused input. `specs/Refusals.antt` gives each its number.
+pub enum Refusal {
+    LengthsDiffer,
+    IllegalBits,
+    TooLong,
+    BadDepth,
+    BadCount,
+    BadState,
+    OutputTooShort,
+    OutOfRange,
+    BadText,
+    BadMask,
+}
+
+// How a call that answers with a state ended.
+pub enum Outcome {
+    Accepted,
+    Refused(Refusal),
+}
+
+impl Refusal {
+    // The refusal's number in document 01.
+    pub fn number(self) -> u8
+        ensures { λ r. ⌜ r ≡ numberOf self ⌝ }
+    {
+        match self {
+            Refusal::LengthsDiffer => 1,
+            Refusal::IllegalBits => 2,
+            Refusal::TooLong => 3,
+            Refusal::BadDepth => 4,
+            Refusal::BadCount => 5,
+            Refusal::BadState => 6,
+            Refusal::OutputTooShort => 7,
+            Refusal::OutOfRange => 8,
+            Refusal::BadText => 9,
+            Refusal::BadMask => 10,
+        }
+    }
+}

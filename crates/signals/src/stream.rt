@@ -1,0 +1,28 @@
+// The fields of a stream's control byte.
+ghost use mathlib.Core.Path.{_≡_};
+ghost use Rattle.signals.specs.Stream.{validBit, readyBit, reservedBits, strbBits};
+
+pub fn valid(control: u8) -> bool
+    ensures { λ r. ⌜ r ≡ validBit control ⌝ }
+{
+    control % 2 == 1
+}
+
+pub fn ready(control: u8) -> bool
+    ensures { λ r. ⌜ r ≡ readyBit control ⌝ }
+{
+    control / 2 % 2 == 1
+}
+
+// Whether a bit is set that has to be zero.
+pub fn reserved(control: u8) -> bool
+    ensures { λ r. ⌜ r ≡ reservedBits control ⌝ }
+{
+    control / 4 % 4 != 0
+}
+
+pub fn strb(control: u8) -> u8
+    ensures { λ r. ⌜ r ≡ strbBits control ⌝ }
+{
+    control / 16
+}
