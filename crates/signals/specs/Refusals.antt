@@ -1,6 +1,7 @@
 -- Document 01, "Refusal numbers": the number of each refusal, and the limits that several calls share. Assumes nothing.
 use Prim.Native.Nat.{ℕ}
-use mathlib.Core.Bool.{Bool, true, false}
+use mathlib.Core.Bool.{Bool, true, false, _||_}
+use mathlib.Core.List.{List, [], _∷_}
 use Rattle.signals.specs.declared.Refusal.{Refusal}
 use Rattle.signals.specs.declared.Refusal.the-variants.{LengthsDiffer, IllegalBits, TooLong, BadDepth, BadCount, BadState, OutputTooShort, OutOfRange, BadText, BadMask}
 use Rattle.signals.specs.declared.Outcome.{Outcome}
@@ -31,3 +32,8 @@ accepts (Refused why) = false
 -- how many cycles a trace may hold
 abbrev pub maxCycles : ℕ
 maxCycles = 65536
+
+-- some entry has a property; it is looked for in the whole input
+abbrev pub anyOf : (ℕ → Bool) → List ℕ → Bool
+anyOf has [] = false
+anyOf has (x ∷ xs) = has x || anyOf has xs

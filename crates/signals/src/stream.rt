@@ -1,5 +1,6 @@
 // The fields of a stream's control byte.
 ghost use mathlib.Core.Path.{_≡_};
+ghost use Rattle.signals.specs.Refusals.{anyOf};
 ghost use Rattle.signals.specs.Stream.{validBit, readyBit, reservedBits, strbBits};
 
 pub fn valid(control: u8) -> bool
@@ -19,6 +20,20 @@ pub fn reserved(control: u8) -> bool
     ensures { λ r. ⌜ r ≡ reservedBits control ⌝ }
 {
     control / 4 % 4 != 0
+}
+
+// Whether a reserved bit is set in any cycle of a trace.
+pub fn any_reserved(controls: &[u8]) -> bool
+    ensures { λ r. ⌜ r ≡ anyOf reservedBits (now (controls .entry)) ⌝ }
+{
+    let mut i = 0;
+    while i < controls.len() {
+        if reserved(controls[i]) {
+            return true;
+        }
+        i += 1;
+    }
+    false
 }
 
 pub fn strb(control: u8) -> u8

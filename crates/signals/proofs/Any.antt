@@ -1,0 +1,23 @@
+-- One turn of a loop that looks for an entry with a property: what is left, looked through from here, answers for the whole.
+-- Assumes nothing.
+use mathlib.Core.Path.{_≡_}
+use mathlib.Core.Bool.{Bool, true, false, _||_}
+use mathlib.Core.List.{List}
+use Prim.Native.Nat.{ℕ, _+_, _<_, _≤_}
+use native.Mathlib.Numerals.{add-one}
+use lib.ListN.{length, drop, getD, drop-of-length-le}
+use lib.Seq.{drop-cons}
+use Rattle.signals.specs.Refusals.{anyOf}
+
+module _ (has : ℕ → Bool) (i : ℕ) (xs : List ℕ) (b : Bool) (so-far : anyOf has (drop i xs) ≡ b) where
+  turn : i < length xs → has (getD xs i 0) || anyOf has (drop (i + 1) xs) ≡ b
+  turn h = rw (add-one i) (rw (drop-cons xs i 0 h) at so-far)
+
+  pub any-found : i < length xs → has (getD xs i 0) ≡ true → true ≡ b
+  any-found h e = rw e at (turn h)
+
+  pub any-goes : i < length xs → has (getD xs i 0) ≡ false → anyOf has (drop (i + 1) xs) ≡ b
+  any-goes h e = rw e at (turn h)
+
+  pub any-ends : length xs ≤ i → false ≡ b
+  any-ends h = rw (drop-of-length-le xs h) at so-far
