@@ -4,3 +4,4 @@ pub mod Payloads
 pub mod Stream
 pub mod Memory
 pub mod Judging
+pub mod Written
