@@ -139,3 +139,7 @@ count-le has (suc n) = one (has n) (count-le has n)
     one : (b : Bool) → countBelow has n ≤ n → countBelow has n + cond b 1 0 ≤ suc n
     one true h = omega arith
     one false h = omega arith
+
+-- one cycle more
+pub count-next : (has : ℕ → Bool) (n : ℕ) → countBelow has (n + 1) ≡ countBelow has n + cond (has n) 1 0
+count-next has n = rw (add-one n)
