@@ -14,6 +14,7 @@ pub const MAX_CYCLES: usize = 65536;
 pub const MAX_STRB: u8 = 15;
 
 // What a stream carries in one cycle: a word, and a strobe bit for each of its bytes.
+#[repr(C)]
 pub struct Payload {
     pub data: u32,
     pub strb: u8,
