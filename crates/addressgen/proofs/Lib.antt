@@ -1,0 +1,4 @@
+pub mod Stepping
+pub mod Writing
+pub mod Running
+pub mod Resuming

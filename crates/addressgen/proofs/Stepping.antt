@@ -1,0 +1,54 @@
+-- Laws of the iterations: ov counts them, and so many iterations and then more are all of them together.
+-- Each is by induction over the iterations. Assumes nothing.
+use Prim.Native.Nat.{ℕ, zero, suc, _+_}
+use native.Mathlib.Nat.{add-zero, add-suc}
+use native.Mathlib.Omega.{arith}
+use mathlib.Core.Bool.{true, false, not, _||_}
+use mathlib.Core.List.{_++_, append-assoc, append-nil}
+use mathlib.Core.Logic.{⊎-elim}
+use mathlib.Core.Path.{_≡_, refl}
+use lib.Dec.{ltb}
+use lib.ListN.{length, length-append}
+use Rattle.signals.proofs.Bools.{either}
+use Rattle.addressgen.specs.declared.Settings.{Settings}
+use Rattle.addressgen.specs.declared.State.{State}
+use Rattle.addressgen.specs.Stepping.{bit0, bit1, next, after, addresses}
+
+-- along whichever dimension, ov gains 1
+pub next-rises : (s : Settings) (t : State) → next s t .ov ≡ t .ov + 1
+next-rises s t = ⊎-elim along0 past0 (either (ltb (t .c0) (s .d0) || not (bit0 s)))
+  where
+    along0 : (ltb (t .c0) (s .d0) || not (bit0 s)) ≡ true → next s t .ov ≡ t .ov + 1
+    along0 e = simp e
+
+    along1 :
+        (ltb (t .c0) (s .d0) || not (bit0 s)) ≡ false → (ltb (t .c1) (s .d1) || not (bit1 s)) ≡ true →
+        next s t .ov ≡ t .ov + 1
+    along1 e f = simp (e, f)
+
+    along2 :
+        (ltb (t .c0) (s .d0) || not (bit0 s)) ≡ false → (ltb (t .c1) (s .d1) || not (bit1 s)) ≡ false →
+        next s t .ov ≡ t .ov + 1
+    along2 e f = simp (e, f)
+
+    past0 : (ltb (t .c0) (s .d0) || not (bit0 s)) ≡ false → next s t .ov ≡ t .ov + 1
+    past0 e = ⊎-elim (along1 e) (along2 e) (either (ltb (t .c1) (s .d1) || not (bit1 s)))
+
+module _ (s : Settings) (t : State) where
+  -- and with each iteration
+  pub after-rises : (n : ℕ) → after s t n .ov ≡ t .ov + n
+  after-rises zero = omega arith
+  after-rises (suc n) = omega (arith, next-rises s (after s t n), after-rises n)
+
+  pub length-addresses : (n : ℕ) → length (addresses s t n) ≡ n
+  length-addresses zero = refl
+  length-addresses (suc n) = simp (length-append, length-addresses n) (omega arith)
+
+  -- n iterations and then m
+  pub after-adds : (n m : ℕ) → after s t (n + m) ≡ after s (after s t n) m
+  after-adds n zero = rw (add-zero n)
+  after-adds n (suc m) = rw (add-suc n m, after-adds n m)
+
+  pub addresses-add : (n m : ℕ) → addresses s t (n + m) ≡ addresses s t n ++ addresses s (after s t n) m
+  addresses-add n zero = rw (add-zero n, append-nil)
+  addresses-add n (suc m) = rw (add-suc n m, addresses-add n m, after-adds n m, append-assoc)

@@ -1,0 +1,4 @@
+-- How the address generator steps, what a run of it answers, and what follows from that for several runs.
+pub mod Stepping
+pub mod Run
+pub mod Resuming

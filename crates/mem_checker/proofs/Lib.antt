@@ -1,0 +1,3 @@
+pub mod Direction
+pub mod Meaning
+pub mod Watching

@@ -1,0 +1,2 @@
+-- What the fixed-select mux answers.
+pub mod Mux
