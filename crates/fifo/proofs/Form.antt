@@ -1,0 +1,184 @@
+-- A FIFO's numbers in range, as facts (`Form`) and as the test, and how emptying, popping and pushing keep them.
+-- Each of the three is said of the FIFO that the code builds, and gives the queue that it stands for. Assumes nothing.
+use Prim.Native.Nat.{ℕ, zero, suc, _+_, _-_, _≤_, _<_}
+use native.Mathlib.Numerals.{add-one}
+use native.Mathlib.Omega.{arith}
+use mathlib.Core.Bool.{Bool, true, false, cond, _&&_, false≢true}
+use mathlib.Core.List.{List, [], _∷_, _++_}
+use mathlib.Core.Path.{_≡_, refl, sym, ap, _∙_}
+use borrow.Author.Tests.{lt-ltb, le-leb, leb-true, ltb-true}
+use lib.Dec.{ltb}
+use lib.ListN.{length, set}
+use Rattle.signals.specs.declared.Payload.{Payload}
+use Rattle.signals.proofs.Bools.{both}
+use Rattle.fifo.specs.declared.Fifo.{Fifo}
+use Rattle.fifo.specs.Queue.{Queue, ill, well, readyOf, capacity, maxDepth, legalDepth, empty, ready, rest, isAny, oldest, shown, when, next}
+use Rattle.fifo.specs.Ring.{ring, wrapped, queueOf, inRange, trusted}
+use Rattle.fifo.proofs.Depths.{depth-most, capacity-most}
+use Rattle.fifo.proofs.Slots.{wrapped-below, ring-length, ring-oldest, store-joins-end}
+
+pub record Form (f : Fifo) : Type 0 where
+  pub depth : legalDepth (f .depth) ≡ true
+  pub oldest : f .oldest < f .depth
+  pub count : f .count ≤ capacity (queueOf f)
+
+pub form-of : (f : Fifo) → inRange f ≡ true → Form f
+unfolding inRange
+form-of f e =
+    let a = both (legalDepth (f .depth)) _ e in
+    let b = both (ltb (f .oldest) (f .depth)) _ (a .1) in
+    record { depth = a .0; oldest = ltb-true _ _ (b .0); count = leb-true _ _ (b .1) }
+
+-- the numbers are those of the slots
+pub oldest-within : (f : Fifo) → inRange f ≡ true → f .oldest < maxDepth
+oldest-within f e = let form = form-of f e in omega (arith, form .oldest, depth-most (f .depth) (form .depth))
+
+pub count-within : (f : Fifo) → inRange f ≡ true → f .count ≤ maxDepth
+count-within f e =
+    let form = form-of f e in omega (arith, form .count, capacity-most (queueOf f), depth-most (f .depth) (form .depth))
+
+-- the slot past the end is within the slots
+pub end-within : (f : Fifo) → inRange f ≡ true → wrapped (f .depth) (f .oldest + f .count) < maxDepth
+end-within f e =
+    let form = form-of f e in
+    omega (
+      arith,
+      wrapped-below (f .depth) (f .oldest + f .count) (omega (arith, form .oldest, form .count, capacity-most (queueOf f))),
+      depth-most (f .depth) (form .depth),
+    )
+
+in-range : (f : Fifo) → Form f → inRange f ≡ true
+unfolding inRange
+in-range f form = rw (form .depth, lt-ltb _ _ (form .oldest), le-leb _ _ (form .count))
+
+pub trusted-in : (f : Fifo) → inRange f ≡ true → trusted f ≡ well (queueOf f)
+unfolding trusted
+trusted-in f e = rw e
+
+pub trusted-out : (f : Fifo) → inRange f ≡ false → trusted f ≡ ill
+unfolding trusted
+trusted-out f e = rw e
+
+pub trusted-form : (f : Fifo) → Form f → trusted f ≡ well (queueOf f)
+trusted-form f form = trusted-in f (in-range f form)
+
+pub count-held : (f : Fifo) → length (queueOf f .held) ≡ f .count
+count-held f = ring-length (f .slots) (f .depth) (f .oldest) (f .count)
+
+-- ready is a comparison of the numbers
+pub ready-count : (f : Fifo) → ready (queueOf f) ≡ ltb (f .count) (capacity (queueOf f))
+ready-count f = rw (count-held f)
+
+-- and so is whether something is shown
+pub shows-count : (f : Fifo) → isAny (shown (queueOf f)) ≡ ltb 0 (f .count)
+unfolding ring
+shows-count f = by-count (f .count)
+  where
+    by-count : (n : ℕ) → isAny (oldest (ring (f .slots) (f .depth) (f .oldest) n)) ≡ ltb 0 n
+    by-count zero = refl
+    by-count (suc n) = sym (lt-ltb 0 (suc n) (omega arith))
+
+pub ready-trusted : (f : Fifo) → readyOf (trusted f) ≡ (inRange f && ready (queueOf f))
+unfolding trusted
+ready-trusted f = by-test (inRange f) (queueOf f)
+  where
+    by-test : (b : Bool) (q : Queue) → readyOf (cond b (well q) ill) ≡ (b && ready q)
+    by-test true q = refl
+    by-test false q = refl
+
+-- a FIFO that stands for a queue by its numbers has them in range, and the queue is the one in its slots
+pub trusted-well : (f : Fifo) (q : Queue) → trusted f ≡ well q → (inRange f ≡ true) × (queueOf f ≡ q)
+unfolding trusted
+trusted-well f q e = by-test (inRange f) (queueOf f) e
+  where
+    by-test : (b : Bool) (r : Queue) → cond b (well r) ill ≡ well q → (b ≡ true) × (r ≡ q)
+    by-test true r e = (refl, (cc))
+    by-test false r e = absurd (let z : _≡_ {A = ℕ} 0 1 = cc in omega arith)
+
+-- nothing is held, wherever the next is to lie
+pub count-0-empty : (depth oldest : ℕ) (slots : List Payload) → legalDepth depth ≡ true → oldest < depth
+    → trusted (record { depth = depth; count = 0; oldest = oldest; slots = slots }) ≡ well (empty depth)
+unfolding ring
+count-0-empty depth oldest slots legal within =
+    trusted-form (record { depth = depth; count = 0; oldest = oldest; slots = slots })
+    (record { depth = legal; oldest = within; count = omega arith })
+
+-- the oldest has left
+abbrev pub afterPop : Fifo → Fifo
+afterPop f = record { depth = f .depth; count = f .count - 1; oldest = wrapped (f .depth) (f .oldest + 1); slots = f .slots }
+
+pub pop-leaves-rest : (f : Fifo) → inRange f ≡ true → 0 < f .count → trusted (afterPop f) ≡ well (record { depth = f .depth; held = rest (queueOf f .held) })
+pop-leaves-rest f e some =
+    let form = form-of f e in
+    trusted-form (afterPop f)
+    (record {
+      depth = form .depth;
+      oldest = wrapped-below (f .depth) (f .oldest + 1) (omega (arith, form .oldest));
+      count = omega (arith, form .count);
+    })
+    ∙ ap (λ (l : List Payload). well (record { depth = f .depth; held = l }))
+    (sym (ap rest (ring-oldest (f .slots) (f .depth) (f .oldest) (f .count) some)))
+
+-- where the sink is not ready or nothing is held, the queue is as it was
+pub no-pop : (f : Fifo) (sink : Bool) → inRange f ≡ true → (sink && ltb 0 (f .count)) ≡ false
+    → trusted f ≡ well (record { depth = f .depth; held = cond sink (rest (queueOf f .held)) (queueOf f .held) })
+no-pop f sink e none =
+    trusted-in f e
+    ∙ ap (λ (l : List Payload). well (record { depth = f .depth; held = l }))
+    (sym (same (queueOf f .held) sink (ap (λ (b : Bool). sink && b) (shows-count f) ∙ none)))
+  where
+    same : (ps : List Payload) (s : Bool) → (s && isAny (oldest ps)) ≡ false → cond s (rest ps) ps ≡ ps
+    same [] true n = refl
+    same [] false n = refl
+    same (p ∷ ps) true n = absurd (false≢true (sym n))
+    same (p ∷ ps) false n = refl
+
+-- a payload has joined
+abbrev pub afterPush : Fifo → Payload → Fifo
+afterPush f p =
+    record { depth = f .depth; count = f .count + 1; oldest = f .oldest; slots = set (f .slots) (wrapped (f .depth) (f .oldest + f .count)) p }
+
+pub push-joins-end : (f : Fifo) (p : Payload) → inRange f ≡ true → length (f .slots) ≡ maxDepth → ready (queueOf f) ≡ true
+    → trusted (afterPush f p) ≡ well (record { depth = f .depth; held = queueOf f .held ++ (p ∷ []) })
+push-joins-end f p e wide room =
+    let form = form-of f e in
+    let below : f .count < capacity (queueOf f) = ltb-true _ _ (sym (ready-count f) ∙ room) in
+    let fits = capacity-most (queueOf f) in
+    let most = depth-most (f .depth) (form .depth) in
+    trusted-form (afterPush f p) (record { depth = form .depth; oldest = form .oldest; count = omega arith })
+    ∙ ap (λ (l : List Payload). well (record { depth = f .depth; held = l }))
+    (rw (add-one (f .count)) (store-joins-end (f .slots) (f .depth) (f .oldest) (f .count) p (omega arith) (form .oldest) (omega arith)))
+
+-- the queue from which the oldest has left where the sink is ready
+abbrev pub popQueue : Queue → Bool → Queue
+popQueue q sink = record { depth = q .depth; held = cond sink (rest (q .held)) (q .held) }
+
+module _ (f popped : Fifo) (sink : Bool) (pops : trusted popped ≡ well (popQueue (queueOf f) sink)) where
+  -- what had room has room
+  pub pop-keeps-room : ready (queueOf f) ≡ true → ready (queueOf popped) ≡ true
+  pop-keeps-room room = ap ready (trusted-well popped (popQueue (queueOf f) sink) pops .1) ∙ by-sink (queueOf f) sink room
+    where
+      rest-length : (ps : List Payload) → length (rest ps) ≤ length ps
+      rest-length [] = omega arith
+      rest-length (p ∷ ps) = omega arith
+
+      by-sink : (q : Queue) (s : Bool) → ready q ≡ true → ready (popQueue q s) ≡ true
+      by-sink q true r =
+          lt-ltb (length (rest (q .held))) (capacity q) (omega (arith, rest-length (q .held), ltb-true (length (q .held)) (capacity q) r))
+      by-sink q false r = r
+
+  -- a push then, of what is offered while there was room, gives the cycle's queue
+  pub push-makes-next : (pushed : Fifo) (offer joins : Bool) (p : Payload) → joins ≡ (offer && ready (queueOf f))
+      → trusted pushed ≡ well (record { depth = popped .depth; held = queueOf popped .held ++ when joins (p ∷ []) })
+      → trusted pushed ≡ well (next (queueOf f) (when offer (p ∷ [])) sink)
+  push-makes-next pushed offer joins p e pushes =
+      pushes
+      ∙ ap (λ (q : Queue). well (record { depth = q .depth; held = q .held ++ when joins (p ∷ []) })) (trusted-well popped (popQueue (queueOf f) sink) pops .1)
+      ∙ ap (λ (l : List Payload). well (record { depth = f .depth; held = popQueue (queueOf f) sink .held ++ l }))
+      (ap (λ (b : Bool). when b (p ∷ [])) e ∙ by-tests offer (ready (queueOf f)))
+    where
+      by-tests : (a b : Bool) → when (a && b) (p ∷ []) ≡ when b (when a (p ∷ []))
+      by-tests true true = refl
+      by-tests true false = refl
+      by-tests false true = refl
+      by-tests false false = refl

@@ -1,0 +1,6 @@
+-- Laws that belong to no one function. Users of the crate need `Depths`, `Strobes` and `Stepping`.
+pub mod Depths
+pub mod Slots
+pub mod Form
+pub mod Strobes
+pub mod Stepping

@@ -1,0 +1,140 @@
+-- What a user of `step_trusted` knows of a FIFO that was looked at once (`value f ≡ well q`): it goes on having its whole
+-- form, since legal strobes stay legal, so the step's promise over the numbers is the one over the value. Assumes nothing.
+use mathlib.Core.Bool.{Bool, true, false, cond, false≢true}
+use mathlib.Core.List.{List, [], _∷_}
+use mathlib.Core.Logic.{⊎-elim}
+use mathlib.Core.Path.{_≡_, refl, sym, ap, _∙_}
+use Rattle.signals.specs.declared.Payload.{Payload}
+use Rattle.signals.specs.declared.Refusal.{Refusal}
+use Rattle.signals.specs.declared.Refusal.the-variants.{IllegalBits, BadState}
+use Rattle.signals.specs.declared.Outcome.the-variants.{Refused}
+use Rattle.signals.specs.Refusals.{accepts}
+use Rattle.signals.specs.Payloads.{zeros, legalStrb}
+use Rattle.signals.proofs.Bools.{either}
+use Rattle.fifo.specs.declared.Fifo.{Fifo}
+use Rattle.fifo.specs.declared.Stepped.{Stepped}
+use Rattle.fifo.specs.Queue.{Queue, Value, ill, well, readyOf, Answer, refused, cleared, cycled, stepOf, when, isAny, oldest, shown, shownAs, ready, next, emptied, legalStrbs}
+use Rattle.fifo.specs.Ring.{trusted, value, strobesChecked}
+use Rattle.fifo.specs.Promises.{Steps, answered}
+use Rattle.fifo.proofs.Strobes.{legal-one, legal-when, shown-payload-legal, next-legal, empty-legal, checked-legal, trusted-of-value}
+
+-- what a FIFO shows, offered to the next one, is what it shows
+pub shown-offered : (q : Queue) → when (isAny (shown q)) (shownAs (shown q) ∷ []) ≡ shown q
+shown-offered q = of-held (q .held)
+  where
+    of-held : (ps : List Payload) → when (isAny (oldest ps)) (shownAs (oldest ps) ∷ []) ≡ oldest ps
+    of-held [] = refl
+    of-held (p ∷ ps) = refl
+
+-- what is ready by the numbers is what is ready
+pub ready-of-value : (f : Fifo) (q : Queue) → value f ≡ well q → readyOf (trusted f) ≡ ready q
+ready-of-value f q e = ap readyOf (trusted-of-value f q e .0)
+
+pub step-legal : (q : Queue) (offer sink clear : Bool) (p : Payload) → legalStrb p ≡ true → stepOf (well q) offer p sink clear ≡ cond clear (cleared q) (cycled q (when offer (p ∷ [])) sink)
+unfolding stepOf
+step-legal q offer sink clear p a = rw a
+
+pub step-illegal : (q : Queue) (offer sink clear : Bool) (p : Payload) → legalStrb p ≡ false → stepOf (well q) offer p sink clear ≡ refused IllegalBits (well q)
+unfolding stepOf
+step-illegal q offer sink clear p a = rw a
+
+pub step-ill : (offer sink clear : Bool) (p : Payload) → stepOf ill offer p sink clear ≡ refused BadState ill
+unfolding stepOf
+step-ill offer sink clear p = refl
+
+-- the code's refusal is the rule's
+pub refusal-steps : (valueOf : Fifo → Value) (f : Fifo) (offer sink clear : Bool) (p : Payload) (why : Refusal) (r : Stepped)
+    → stepOf (valueOf f) offer p sink clear ≡ refused why (valueOf f)
+    → r ≡ record { outcome = Refused why; ready = false; valid = false; payload = zeros; next = f }
+    → Steps valueOf f offer p sink clear r
+refusal-steps valueOf f offer sink clear p why r rule e = rw e (record { answer = sym rule; kept = λ _. refl })
+
+-- and so is its cycle
+pub cycle-steps : (f : Fifo) (q : Queue) (offer sink clear : Bool) (p : Payload) (r : Stepped)
+    → trusted f ≡ well q → legalStrb p ≡ true
+    → answered trusted r ≡ cond clear (cleared q) (cycled q (when offer (p ∷ [])) sink)
+    → Steps trusted f offer p sink clear r
+cycle-steps f q offer sink clear p r e legal cycle =
+    record {
+      answer = cycle ∙ sym (ap (λ (v : Value). stepOf v offer p sink clear) e ∙ step-legal q offer sink clear p legal);
+      kept = λ n. absurd (false≢true (sym n ∙ ap (λ (a : Answer). accepts (a .outcome)) cycle ∙ accepted clear));
+    }
+  where
+    accepted : (c : Bool) → accepts (cond c (cleared q) (cycled q (when offer (p ∷ [])) sink) .outcome) ≡ true
+    accepted true = refl
+    accepted false = refl
+
+-- an answer with a legal payload, and a next queue with legal strobes
+record Legal (a : Answer) : Type 0 where
+  payload : legalStrb (a .payload) ≡ true
+  next : strobesChecked (a .next) ≡ a .next
+
+answer-legal : (q : Queue) (offer sink clear : Bool) (p : Payload) → legalStrbs (q .held) ≡ true → Legal (stepOf (well q) offer p sink clear)
+answer-legal q offer sink clear p a =
+    ⊎-elim (λ e. rw (step-legal q offer sink clear p e) (by-clear e clear))
+    (λ e. rw (step-illegal q offer sink clear p e) (record { payload = refl; next = checked-legal q a }))
+    (either (legalStrb p))
+  where
+    by-clear : legalStrb p ≡ true → (c : Bool) → Legal (cond c (cleared q) (cycled q (when offer (p ∷ [])) sink))
+    by-clear e true = record { payload = refl; next = checked-legal (emptied q) empty-legal }
+    by-clear e false =
+        record {
+          payload = shown-payload-legal q a;
+          next = checked-legal (next q (when offer (p ∷ [])) sink)
+              (next-legal q (when offer (p ∷ [])) sink a (legal-when offer (p ∷ []) (legal-one p e)));
+        }
+
+module _ (f : Fifo) (q : Queue) (offer : Bool) (p : Payload) (sink clear : Bool) (r : Stepped)
+    (before : value f ≡ well q) (steps : Steps trusted f offer p sink clear r) where
+  by-rule : answered trusted r ≡ stepOf (well q) offer p sink clear
+  by-rule = steps .answer ∙ ap (λ (v : Value). stepOf v offer p sink clear) (trusted-of-value f q before .0)
+
+  legal : Legal (answered trusted r)
+  legal = rw by-rule (answer-legal q offer sink clear p (trusted-of-value f q before .1))
+
+  same-value : value (r .next) ≡ trusted (r .next)
+  unfolding value
+  same-value = legal .next
+
+  -- a trusted step is a step
+  pub trusted-steps : Steps value f offer p sink clear r
+  trusted-steps =
+      record {
+        answer = rw (same-value, before) by-rule;
+        kept = steps .kept;
+      }
+
+  -- whatever it answers, the payload shown has a legal strobe
+  pub payload-legal : legalStrb (r .payload) ≡ true
+  payload-legal = legal .payload
+
+-- a step's answer, part by part
+pub record Answers (r : Stepped) (a : Answer) : Type 0 where
+  pub outcome : r .outcome ≡ a .outcome
+  pub ready : r .ready ≡ a .ready
+  pub valid : r .valid ≡ a .valid
+  pub payload : r .payload ≡ a .payload
+  pub next : value (r .next) ≡ a .next
+
+pub answers : (r : Stepped) (a : Answer) → answered value r ≡ a → Answers r a
+answers r a e =
+    record {
+      outcome = ap (λ (x : Answer). x .outcome) e;
+      ready = ap (λ (x : Answer). x .ready) e;
+      valid = ap (λ (x : Answer). x .valid) e;
+      payload = ap (λ (x : Answer). x .payload) e;
+      next = ap (λ (x : Answer). x .next) e;
+    }
+
+-- a trusted step with a legal payload
+module _ (f : Fifo) (q : Queue) (offer : Bool) (p : Payload) (sink clear : Bool) (r : Stepped)
+    (before : value f ≡ well q) (legal : legalStrb p ≡ true) (steps : Steps trusted f offer p sink clear r) where
+  by-clear : answered value r ≡ cond clear (cleared q) (cycled q (when offer (p ∷ [])) sink)
+  by-clear =
+      rw before at (trusted-steps f q offer p sink clear r before steps .answer) ∙ step-legal q offer sink clear p legal
+
+  pub trusted-cycles : clear ≡ false → Answers r (cycled q (when offer (p ∷ [])) sink)
+  trusted-cycles e = answers r (cycled q (when offer (p ∷ [])) sink) (rw e at by-clear)
+
+  pub trusted-clears : clear ≡ true → Answers r (cleared q)
+  trusted-clears e = answers r (cleared q) (rw e at by-clear)

@@ -1,0 +1,139 @@
+// One FIFO of payloads, a cycle at a time.
+//
+// Writes out the FIFO of "The stage and the line" of document 01. The value of a FIFO is its depth and its payloads,
+// the oldest first (`specs/Queue.antt`); the ring that holds them (`specs/Ring.antt`) is nobody else's affair.
+mod ring;
+
+ghost use mathlib.Core.Path.{_≡_};
+ghost use mathlib.Core.Bool.{true, false, cond};
+ghost use mathlib.Core.List.{[], _∷_};
+ghost use Rattle.signals.specs.Payloads.{zeros};
+ghost use Rattle.fifo.specs.Queue.{isWell, readyOf, when, cleared, cycled};
+ghost use Rattle.fifo.specs.Ring.{value, trusted, queueOf, inRange};
+ghost use Rattle.fifo.specs.Promises.{Made, Steps, answered};
+use ring::is_legal_depth;
+use signals::MAX_STRB;
+use signals::Outcome;
+use signals::Payload;
+use signals::Refusal;
+
+// The deepest FIFO.
+pub const MAX_DEPTH: usize = 16;
+
+// A FIFO, document 01's stage. `count` payloads lie in the slots from `oldest` on, around the end at `depth`.
+#[repr(C)]
+pub struct Fifo {
+    pub depth: usize,
+    pub count: usize,
+    pub oldest: usize,
+    pub slots: [Payload; MAX_DEPTH],
+}
+
+pub struct NewFifo {
+    pub outcome: Outcome,
+    pub fifo: Fifo,
+}
+
+// What a step shows, and the FIFO after it.
+pub struct Stepped {
+    pub outcome: Outcome,
+    pub ready: bool,
+    pub valid: bool,
+    pub payload: Payload,
+    pub next: Fifo,
+}
+
+impl Fifo {
+    // An empty FIFO. A depth that is refused gives one of depth 2.
+    pub fn new(depth: usize) -> NewFifo
+        ensures { λ r. ⌜ Made depth r ⌝ }
+    {
+        if is_legal_depth(depth) {
+            return NewFifo {
+                outcome: Outcome::Accepted,
+                fifo: Fifo::empty(depth),
+            };
+        }
+        NewFifo {
+            outcome: Outcome::Refused(Refusal::BadDepth),
+            fifo: Fifo::empty(2),
+        }
+    }
+
+    // Whether a FIFO has its form, held strobes included.
+    pub fn is_well(self) -> bool
+        ensures { λ r. ⌜ r ≡ isWell (value self) ⌝ }
+    {
+        if self.is_in_range() {
+            return self.has_legal_strobes();
+        }
+        false
+    }
+
+    // Whether a FIFO whose held strobes are trusted is ready to its source.
+    pub fn is_ready(self) -> bool
+        ensures { λ r. ⌜ r ≡ readyOf (trusted self) ⌝ }
+    {
+        self.is_in_range() & self.has_room()
+    }
+
+    // One cycle of a FIFO that has its form; the held strobes are looked at first.
+    pub fn step(self, valid: bool, payload: Payload, sink: bool, clear: bool) -> Stepped
+        ensures { λ r. ⌜ Steps value self valid payload sink clear r ⌝ }
+    {
+        if self.is_well() {
+            return self.step_trusted(valid, payload, sink, clear);
+        }
+        self.silent(Outcome::Refused(Refusal::BadState))
+    }
+
+    // One cycle of a FIFO whose held strobes are trusted: what is tested of its form takes constant time.
+    pub fn step_trusted(self, valid: bool, payload: Payload, sink: bool, clear: bool) -> Stepped
+        ensures { λ r. ⌜ Steps trusted self valid payload sink clear r ⌝ }
+    {
+        let formed = self.is_in_range();
+        let legal = payload.strb <= MAX_STRB;
+        if formed & legal {
+            return self.cycle(valid, payload, sink, clear);
+        }
+        if formed {
+            return self.silent(Outcome::Refused(Refusal::IllegalBits));
+        }
+        self.silent(Outcome::Refused(Refusal::BadState))
+    }
+
+    // One cycle, nothing being refused.
+    fn cycle(self, valid: bool, payload: Payload, sink: bool, clear: bool) -> Stepped
+        requires { ⌜ inRange self ≡ true ⌝ }
+        ensures { λ r. ⌜ answered trusted r ≡ cond clear (cleared (queueOf self)) (cycled (queueOf self) (when valid (payload ∷ [])) sink) ⌝ }
+    {
+        if clear {
+            return self.emptied().silent(Outcome::Accepted);
+        }
+        let shown = self.shown();
+        let popped = self.popped(sink);
+        let ready = self.has_room();
+        let next = popped.pushed(valid & ready, payload);
+        Stepped {
+            outcome: Outcome::Accepted,
+            ready: ready,
+            valid: 0 < self.count,
+            payload: shown,
+            next: next,
+        }
+    }
+
+    // A step that shows nothing, and leaves this FIFO.
+    fn silent(self, outcome: Outcome) -> Stepped
+        ensures { λ r. ⌜ r ≡ record { outcome = outcome; ready = false; valid = false; payload = zeros; next = self } ⌝ }
+    {
+        let nothing = Payload { data: 0, strb: 0 };
+        Stepped {
+            outcome: outcome,
+            ready: false,
+            valid: false,
+            payload: nothing,
+            next: self,
+        }
+    }
+}
