@@ -1,0 +1,4 @@
+pub mod Due
+pub mod Follows
+pub mod Judged
+pub mod Meaning

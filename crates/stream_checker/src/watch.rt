@@ -1,0 +1,161 @@
+// What the checker keeps of the cycles that it has seen, and its step over one more.
+ghost use mathlib.Core.Path.{_≡_};
+ghost use Prim.Native.Nat.{_+_, _<_, _^_};
+ghost use Rattle.signals.specs.Payloads.{samePayload};
+ghost use Rattle.signals.specs.Stream.{sample, handshake};
+ghost use Rattle.stream_checker.specs.Rules.{stalled, carriesCounter, counter, afterCounter};
+ghost use Rattle.stream_checker.specs.Step.{before, start, breaksAfter, breach, seqBreach, next};
+use crate::Rule;
+use signals::stream::ready;
+use signals::stream::strb;
+use signals::stream::valid;
+
+// The counter is the low 16 bits of data: there are so many counters, and 0 follows the last.
+const COUNTERS: u32 = 65536;
+
+// What is found in one cycle.
+pub enum Breach {
+    Nothing,
+    Of(Rule),
+}
+
+pub struct Watch {
+    // The cycle before.
+    pub control: u8,
+    pub data: u32,
+    // Whether a counter was carried, and the counter that is due next.
+    pub counted: bool,
+    pub due: u32,
+    pub handshakes: u32,
+}
+
+fn handshake(control: u8) -> bool
+    ensures { λ r. ⌜ r ≡ handshake (sample control 0) ⌝ }
+{
+    valid(control) & ready(control)
+}
+
+// Whether a cycle carries a counter: every handshake does.
+fn carries_counter(control: u8) -> bool
+    ensures { λ r. ⌜ r ≡ carriesCounter (sample control 0) ⌝ }
+{
+    handshake(control)
+}
+
+// Whether a cycle lays a duty on the next.
+fn stalled(control: u8) -> bool
+    ensures { λ r. ⌜ r ≡ stalled (sample control 0) ⌝ }
+{
+    valid(control) & !ready(control)
+}
+
+// The counter that follows the one in a word.
+fn due_after(data: u32) -> u32
+    ensures { λ r. ⌜ r ≡ afterCounter (counter (sample 0 «data»)) ⌝ }
+{
+    (data % COUNTERS + 1) % COUNTERS
+}
+
+impl Watch {
+    // Before the first cycle nothing is stalled, no counter was carried, and nothing was counted.
+    pub fn start() -> Watch
+        ensures { λ r. ⌜ r ≡ start ⌝ }
+    {
+        Watch {
+            control: 0,
+            data: 0,
+            counted: false,
+            due: 0,
+            handshakes: 0,
+        }
+    }
+
+    // Whether a cycle shows the payload of the cycle before.
+    fn same_payload(self, control: u8, data: u32) -> bool
+        ensures { λ r. ⌜ r ≡ samePayload (sample control «data» .payload) (before self .payload) ⌝ }
+    {
+        let strobes = strb(control);
+        let before = self.data;
+        let strobes_before = strb(self.control);
+        (data == before) & (strobes == strobes_before)
+    }
+
+    // Whether a cycle breaks rule seq.
+    fn breaks_seq(self, control: u8, data: u32) -> bool
+        ensures { λ r. ⌜ r ≡ breaksAfter self (sample control «data») Rule.Seq ⌝ }
+    {
+        carries_counter(control) & (self.counted & (data % COUNTERS != self.due))
+    }
+
+    // Rule seq alone, where it is switched on.
+    fn seq_breach(self, control: u8, data: u32, seq: bool) -> Breach
+        ensures { λ r. ⌜ r ≡ seqBreach self (sample control «data») seq ⌝ }
+    {
+        if seq {
+            if self.breaks_seq(control, data) {
+                Breach::Of(Rule::Seq)
+            } else {
+                Breach::Nothing
+            }
+        } else {
+            Breach::Nothing
+        }
+    }
+
+    // The first rule in order that the next cycle breaks.
+    pub fn breach(self, control: u8, data: u32, seq: bool) -> Breach
+        ensures { λ r. ⌜ r ≡ breach self (sample control «data») seq ⌝ }
+    {
+        if stalled(self.control) {
+            let held = valid(control);
+            let same = self.same_payload(control, data);
+            if held {
+                if same {
+                    self.seq_breach(control, data, seq)
+                } else {
+                    Breach::Of(Rule::Stable)
+                }
+            } else {
+                Breach::Of(Rule::Held)
+            }
+        } else {
+            self.seq_breach(control, data, seq)
+        }
+    }
+
+    // How many handshakes there were, with the next cycle.
+    fn handshakes_with(self, control: u8) -> u32
+        requires { ⌜ self .handshakes + 1 < 2 ^ 32 ⌝ }
+        ensures { λ r. ⌜ r ≡ next self control 0 .handshakes ⌝ }
+    {
+        if handshake(control) {
+            self.handshakes + 1
+        } else {
+            self.handshakes
+        }
+    }
+
+    // The watch after the next cycle.
+    pub fn next(self, control: u8, data: u32) -> Watch
+        requires { ⌜ self .handshakes + 1 < 2 ^ 32 ⌝ }
+        ensures { λ r. ⌜ r ≡ next self control «data» ⌝ }
+    {
+        let handshakes = self.handshakes_with(control);
+        if carries_counter(control) {
+            return Watch {
+                control,
+                data,
+                counted: true,
+                due: due_after(data),
+                handshakes,
+            };
+        }
+        Watch {
+            control,
+            data,
+            counted: self.counted,
+            due: self.due,
+            handshakes,
+        }
+    }
+}
