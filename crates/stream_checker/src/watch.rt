@@ -14,19 +14,19 @@ use signals::stream::valid;
 const COUNTERS: u32 = 65536;
 
 // What is found in one cycle.
-pub enum Breach {
+pub(crate) enum Breach {
     Nothing,
     Of(Rule),
 }
 
-pub struct Watch {
+pub(crate) struct Watch {
     // The cycle before.
-    pub control: u8,
-    pub data: u32,
+    pub(crate) control: u8,
+    pub(crate) data: u32,
     // Whether a counter was carried, and the counter that is due next.
-    pub counted: bool,
-    pub due: u32,
-    pub handshakes: u32,
+    pub(crate) counted: bool,
+    pub(crate) due: u32,
+    pub(crate) handshakes: u32,
 }
 
 fn handshake(control: u8) -> bool
@@ -58,7 +58,7 @@ fn due_after(data: u32) -> u32
 
 impl Watch {
     // Before the first cycle nothing is stalled, no counter was carried, and nothing was counted.
-    pub fn start() -> Watch
+    pub(crate) fn start() -> Watch
         ensures { λ r. ⌜ r ≡ start ⌝ }
     {
         Watch {
@@ -103,7 +103,7 @@ impl Watch {
     }
 
     // The first rule in order that the next cycle breaks.
-    pub fn breach(self, control: u8, data: u32, seq: bool) -> Breach
+    pub(crate) fn breach(self, control: u8, data: u32, seq: bool) -> Breach
         ensures { λ r. ⌜ r ≡ breach self (sample control «data») seq ⌝ }
     {
         if stalled(self.control) {
@@ -136,7 +136,7 @@ impl Watch {
     }
 
     // The watch after the next cycle.
-    pub fn next(self, control: u8, data: u32) -> Watch
+    pub(crate) fn next(self, control: u8, data: u32) -> Watch
         requires { ⌜ self .handshakes + 1 < 2 ^ 32 ⌝ }
         ensures { λ r. ⌜ r ≡ next self control «data» ⌝ }
     {
