@@ -1,6 +1,7 @@
--- Laws that belong to no one function. Users of the crate need `Depths`, `Strobes` and `Stepping`.
+-- Laws that belong to no one function. Users of the crate need `Depths`, `Strobes`, `Stepping` and `Some`.
 pub mod Depths
 pub mod Slots
 pub mod Form
 pub mod Strobes
 pub mod Stepping
+pub mod Some

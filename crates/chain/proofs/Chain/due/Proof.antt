@@ -1,0 +1,83 @@
+-- `Chain::due` meets its contract: the tests follow document 01's order of the refusals of a run. Assumes nothing.
+use borrow.Author.Needs.{needs}
+use borrow.Author.Tests.{lt-ltb, le-ltb}
+use Rattle.chain.proofs.Chain.due.Statement.{statement}
+use Rattle.chain.proofs.Chain.due.Tie as tie
+
+returns : tie.Need-returns
+returns c outControls outWords h k = rw (c .before .if1 .taken, lt-ltb _ _ (c .if2 .taken))
+
+is-well-requires : tie.Need-is-well-requires
+is-well-requires c κs = search needs
+
+any-reserved-requires : tie.Need-any-reserved-requires
+any-reserved-requires c κs = search needs
+
+any-above-one-requires : tie.Need-any-above-one-requires
+any-above-one-requires c κs = search needs
+
+returns-2 : tie.Need-returns-2
+returns-2 c outControls outWords h k =
+    let formed = c .before .before .before in
+    rw (
+      formed .before .before .before .if1 .taken,
+      le-ltb _ _ (formed .before .before .if2 .left),
+      ← formed .before .is-well .ensures,
+      formed .if3 .taken,
+      ← c .before .before .any-reserved .ensures,
+      ← c .before .any-above-one .ensures,
+      c .if4 .taken,
+    )
+
+returns-3 : tie.Need-returns-3
+returns-3 c outControls outWords h k =
+    let formed = c .before .before .before .before in
+    rw (
+      formed .before .before .before .if1 .taken,
+      le-ltb _ _ (formed .before .before .if2 .left),
+      ← formed .before .is-well .ensures,
+      formed .if3 .taken,
+      ← c .before .before .before .any-reserved .ensures,
+      ← c .before .before .any-above-one .ensures,
+      c .before .if4 .left,
+      h,
+      k,
+      c .if5 .taken,
+    )
+
+returns-4 : tie.Need-returns-4
+returns-4 c outControls outWords h k =
+    let formed = c .before .before .before .before in
+    rw (
+      formed .before .before .before .if1 .taken,
+      le-ltb _ _ (formed .before .before .if2 .left),
+      ← formed .before .is-well .ensures,
+      formed .if3 .taken,
+      ← c .before .before .before .any-reserved .ensures,
+      ← c .before .before .any-above-one .ensures,
+      c .before .if4 .left,
+      h,
+      k,
+      c .if5 .left,
+    )
+
+returns-5 : tie.Need-returns-5
+returns-5 c outControls outWords h k =
+    rw (c .before .before .before .if1 .taken, le-ltb _ _ (c .before .before .if2 .left), ← c .before .is-well .ensures, c .if3 .left)
+
+returns-6 : tie.Need-returns-6
+returns-6 c outControls outWords h k = rw (c .if1 .left)
+
+pub due-spec : {M : Type 1} → statement M
+due-spec =
+    tie.close
+    (tie.spec
+    returns
+    is-well-requires
+    any-reserved-requires
+    any-above-one-requires
+    returns-2
+    returns-3
+    returns-4
+    returns-5
+    returns-6)

@@ -1,0 +1,162 @@
+-- Demand 3 at work on two FIFOs of depth 2: its bound is met exactly, and a session of steps and runs, two of them refused, meets its
+-- hypotheses. Everything computes but the values of FIFOs, which are `fifo`'s affair: it has some FIFO of each (`some-fifo`). Assumes nothing.
+use Prim.Native.Nat.{ℕ, _-_}
+use native.Mathlib.Omega.{arith}
+use mathlib.Core.Bool.{Bool, true, false, true≢false}
+use mathlib.Core.List.{List, [], _∷_, _++_, map}
+use mathlib.Core.Path.{_≡_, refl}
+use lib.ListN.{length, replicate}
+use Rattle.signals.specs.declared.Payload.{Payload}
+use Rattle.signals.specs.declared.Outcome.the-variants.{Accepted}
+use Rattle.signals.specs.Refusals.{accepts}
+use Rattle.signals.specs.Payloads.{zeros}
+use Rattle.fifo.specs.Queue.{Queue, empty, legalStrbs}
+use Rattle.fifo.specs.Queue as queue
+use Rattle.fifo.specs.Promises as fifo
+use Rattle.fifo.proofs.Some.{fifoOf, some-fifo}
+use Rattle.chain.specs.declared.Chain.{Chain}
+use Rattle.chain.specs.declared.NewChain.{NewChain}
+use Rattle.chain.specs.Line.{heldIn}
+use Rattle.chain.specs.Cycles.{Cycle, Outlet, sampleOf}
+use Rattle.chain.specs.Calls.{maxFifos, Call, step, run, well, due, answer, back}
+use Rattle.chain.specs.Promises.{value, Made, Done, Promised}
+use Rattle.chain.specs.Demand3.{Ledger, opened, enteredAll, Session, outletsIn, KeepsRules, Begins, Demand3}
+use Rattle.chain.proofs.Demand3.{demand3}
+
+abbrev depths : List ℕ
+depths = 2 ∷ 2 ∷ []
+
+abbrev word : ℕ → Payload
+word n = record { «data» = n; strb = 15 }
+
+abbrev offering : ℕ → (sink : Bool) → Cycle
+offering n sink = record { valid = true; payload = word n; sink = sink; clear = false }
+
+abbrev idle : (sink : Bool) → Cycle
+idle sink = record { valid = false; payload = zeros; sink = sink; clear = false }
+
+abbrev clearing : Cycle
+clearing = record { valid = false; payload = zeros; sink = true; clear = true }
+
+-- accepted with none held: not delivered by the first later sink-ready cycle, but by the second
+one-is-too-few : enteredAll (opened depths) (offering 7 true ∷ idle true ∷ []) .delivered ≡ []
+one-is-too-few = refl
+
+two-are-enough : enteredAll (opened depths) (offering 7 true ∷ idle true ∷ idle true ∷ []) .delivered ≡ word 7 ∷ []
+two-are-enough = refl
+
+-- a full FIFO does not accept in the cycle in which it pops
+full-mouth : enteredAll (opened (2 ∷ [])) (offering 1 false ∷ offering 2 false ∷ offering 3 true ∷ offering 4 false ∷ []) .accepted
+    ≡ word 1 ∷ word 2 ∷ word 4 ∷ []
+full-mouth = refl
+
+-- held is told from the outlet on, and a clear starts the ledger anew
+abbrev filled : Ledger
+filled = enteredAll (opened depths) (offering 1 false ∷ offering 2 false ∷ offering 3 false ∷ offering 4 true ∷ [])
+
+filled-order : (filled .accepted ≡ word 1 ∷ word 2 ∷ word 3 ∷ word 4 ∷ [])
+    × (filled .delivered ≡ word 1 ∷ [])
+    × (heldIn (filled .line) ≡ word 2 ∷ word 3 ∷ word 4 ∷ [])
+filled-order = (refl, refl, refl)
+
+cleared-anew : enteredAll filled (clearing ∷ offering 5 true ∷ []) .accepted ≡ word 5 ∷ []
+cleared-anew = refl
+
+-- A session: 9 is accepted in a step, and a run of four cycles delivers it in its third; a clear with a bad strobe and a run that is
+-- lent too little are refused between.
+abbrev none : List Queue
+none = empty 2 ∷ empty 2 ∷ []
+
+abbrev nine : List Queue
+nine = record { depth = 2; held = word 9 ∷ [] } ∷ empty 2 ∷ []
+
+abbrev accepting : Call
+accepting = step true (word 9) false false
+
+abbrev badClear : Call
+badClear = step true (record { «data» = 1; strb = 16 }) false true
+
+abbrev draining : Call
+draining = run (0 ∷ 0 ∷ 0 ∷ 0 ∷ []) (0 ∷ 0 ∷ 0 ∷ 0 ∷ []) (0 ∷ 0 ∷ 1 ∷ 1 ∷ []) (5 ∷ 5 ∷ 5 ∷ 5 ∷ 5 ∷ []) (6 ∷ 6 ∷ 6 ∷ 6 ∷ [])
+
+abbrev shortRun : Call
+shortRun = run (0 ∷ []) (0 ∷ []) (1 ∷ []) [] []
+
+abbrev showing : (sink : Bool) → Payload → Outlet
+showing sink p = record { clear = false; sample = sampleOf sink (p ∷ []) }
+
+abbrev nothing : Outlet
+nothing = record { clear = false; sample = sampleOf false [] }
+
+-- a chain of some FIFOs that stand for the queues
+abbrev chainOf : List Queue → Chain
+chainOf qs = record { count = length qs; fifos = map fifoOf qs ++ replicate (maxFifos - length qs) (fifoOf (empty 2)) }
+
+empty-value : fifo.value (fifoOf (empty 2)) ≡ queue.well (empty 2)
+unfolding legalStrbs
+empty-value = some-fifo (empty 2) refl (omega arith) refl
+
+none-value : value (chainOf none) ≡ well none
+unfolding value
+none-value = rw empty-value
+
+nine-value : value (chainOf nine) ≡ well nine
+unfolding value legalStrbs
+nine-value =
+    rw (some-fifo (record { depth = 2; held = word 9 ∷ [] }) refl (omega arith) refl, empty-value)
+
+abbrev called : List Queue → Call → List Queue → Done
+called before call after = record { call = call; answered = answer (well before) call; back = chainOf after }
+
+promised : (before after : List Queue) (call : Call) → value (chainOf before) ≡ well before → value (chainOf after) ≡ back (well before) call →
+    (accepts (due true call) ≡ false → chainOf after ≡ chainOf before) → Promised (chainOf before) (called before call after)
+promised before after call v w same = record { answers = rw v; gives = rw v w; kept = rw v same }
+
+abbrev pub calls : List Done
+calls =
+    called none accepting nine
+    ∷ called nine badClear nine
+    ∷ called nine draining none
+    ∷ called none shortRun none
+    ∷ []
+
+abbrev pub new : NewChain
+new = record { outcome = Accepted; chain = chainOf none }
+
+pub made : Made depths new
+made = record { outcome = refl; gives = none-value }
+
+pub session : Session (new .chain) calls
+session = (
+  promised none nine accepting none-value nine-value (λ e. absurd (true≢false e)),
+  (
+    promised nine nine badClear nine-value nine-value (λ e. refl),
+    (
+      promised nine none draining nine-value none-value (λ e. absurd (true≢false e)),
+      (promised none none shortRun none-value none-value (λ e. refl), tt),
+    ),
+  ),
+)
+
+pub holds : Demand3 depths calls
+holds = demand3 depths refl new made calls session
+
+-- what was answered: five cycles, and 9 shown in two of them
+pub shows-nine : map (λ o. o .sample .payload .«data») (outletsIn calls) ≡ 0 ∷ 0 ∷ 9 ∷ 9 ∷ 0 ∷ []
+shows-nine = refl
+
+-- what `outlet` says of the two, of which the first is not taken
+pub nine-stays : KeepsRules (showing false (word 9)) (showing true (word 9))
+nine-stays = holds .outlet (nothing ∷ nothing ∷ []) (record { clear = false; sample = sampleOf true [] } ∷ []) _ _ refl refl refl
+
+-- what `order` says in the midst of the run
+pub order-midway : let l = enteredAll (opened depths) (offering 9 false ∷ idle false ∷ []) in l .accepted ≡ l .delivered ++ heldIn (l .line)
+order-midway = holds .order (offering 9 false ∷ idle false ∷ []) (idle false ∷ idle true ∷ idle true ∷ []) refl
+
+-- what `delay` says: n = 0 and k = 2, and the sink is ready twice
+pub nine-delivered :
+    Begins (word 9 ∷ []) (enteredAll (opened depths) (offering 9 false ∷ idle false ∷ idle false ∷ idle true ∷ idle true ∷ []) .delivered)
+nine-delivered =
+    holds .delay [] (idle false ∷ idle false ∷ idle true ∷ idle true ∷ []) [] (offering 9 false) refl refl
+    (refl, (refl, (refl, (refl, tt))))
+    (omega arith)

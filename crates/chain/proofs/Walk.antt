@@ -1,0 +1,188 @@
+-- The walk over the used FIFOs of a chain from the mouth to the outlet: those before a place have been served, and those
+-- from it on are as they were. One turn of a cycle and of a clear, over plain values. Assumes nothing.
+use mathlib.Core.Path.{_≡_, refl, sym, ap, _∙_}
+use mathlib.Core.Bool.{Bool, true, false}
+use mathlib.Core.List.{List, [], _∷_, _++_, map, map-append, append-assoc, append-nil}
+use Prim.Native.Nat.{ℕ, _+_, _≤_, _<_}
+use native.Mathlib.Omega.{arith}
+use lib.ListN.{length, getD, set}
+use Rattle.signals.specs.declared.Payload.{Payload}
+use Rattle.signals.specs.Payloads.{legalStrb}
+use Rattle.fifo.specs.declared.Fifo.{Fifo}
+use Rattle.fifo.specs.declared.Stepped.{Stepped}
+use Rattle.fifo.specs.Queue as queue
+use Rattle.fifo.specs.Queue.{Queue, readyOf, when, isAny, shown, shownAs, next, emptied}
+use Rattle.fifo.specs.Promises as fifo
+use Rattle.fifo.proofs.Stepping.{trusted-cycles, trusted-clears, payload-legal, ready-of-value, shown-offered}
+use Rattle.chain.specs.declared.Chain.{Chain}
+use Rattle.chain.specs.Line.{mouth, cycle, outlet}
+use Rattle.chain.specs.Calls.{Value, ill, well, queues, maxFifos}
+use Rattle.chain.specs.Promises.{lineOf, before, value}
+use Rattle.chain.proofs.Used.{valuesBelow, valuesFrom, from-start, from-cons, from-end, from-set, below-set, Formed}
+
+-- a row of values that all have their form, and back
+pub line-of-wells : (qs : List Queue) → lineOf (map queue.well qs) ≡ well qs
+line-of-wells [] = refl
+line-of-wells (q ∷ qs) = rw (line-of-wells qs)
+
+pub wells-of-line : (vs : List queue.Value) (qs : List Queue) → lineOf vs ≡ well qs → vs ≡ map queue.well qs
+wells-of-line [] qs e = let none : qs ≡ [] = cc in rw none
+wells-of-line (queue.ill ∷ vs) qs e = absurd (let z : _≡_ {A = ℕ} 0 1 = cc in omega arith)
+wells-of-line (queue.well q ∷ vs) qs e = by-rest (lineOf vs) (wells-of-line vs) refl e
+  where
+    by-rest : (rest : Value) → ((rs : List Queue) → lineOf vs ≡ well rs → vs ≡ map queue.well rs) → lineOf vs ≡ rest → before q rest ≡ well qs
+        → queue.well q ∷ vs ≡ map queue.well qs
+    by-rest ill wells r e = absurd (let z : _≡_ {A = ℕ} 0 1 = cc in omega arith)
+    by-rest (well rs) wells r e = let same : q ∷ rs ≡ qs = cc in rw (← same) (ap (λ (l : List queue.Value). queue.well q ∷ l) (wells rs r))
+
+-- the queues of the FIFOs served, and of those left
+pub record Split (fs : List Fifo) (n i : ℕ) (served left : List Queue) : Type 0 where
+  pub below : valuesBelow fs i ≡ map queue.well served
+  pub from : valuesFrom fs i n ≡ map queue.well left
+
+pub split-start : (fs : List Fifo) (n : ℕ) (qs : List Queue) → lineOf (valuesFrom fs 0 n) ≡ well qs → Split fs n 0 [] qs
+unfolding valuesBelow
+split-start fs n qs e = record { below = refl; from = wells-of-line _ qs e }
+
+pub split-end : (fs : List Fifo) (n : ℕ) (served left : List Queue) → Split fs n n served left → lineOf (valuesFrom fs 0 n) ≡ well served
+unfolding valuesBelow
+split-end fs n served left s = rw (from-start fs n, s .below, line-of-wells)
+
+module _ (fs : List Fifo) (n i : ℕ) where
+  -- none is left at the end
+  pub none-left : (left : List Queue) → n ≤ i → valuesFrom fs i n ≡ map queue.well left → left ≡ []
+  none-left [] h e = refl
+  none-left (q ∷ qs) h e = absurd (let f = from-end fs i n h in let z : _≡_ {A = ℕ} 0 1 = cc in omega arith)
+
+  -- the FIFO at a place before the end is the first of those left
+  pub record Front (d : Fifo) (left : List Queue) : Type 0 where
+    pub first : Queue
+    pub others : List Queue
+    pub stands : left ≡ first ∷ others
+    pub has : fifo.value (getD fs i d) ≡ queue.well first
+    pub behind : valuesFrom fs (i + 1) n ≡ map queue.well others
+
+  pub front : (d : Fifo) (left : List Queue) → i < n → n ≤ length fs → valuesFrom fs i n ≡ map queue.well left → Front d left
+  front d left h k e = by-left left (sym (from-cons fs i n d h k) ∙ e)
+    where
+      by-left : (left : List Queue) → fifo.value (getD fs i d) ∷ valuesFrom fs (i + 1) n ≡ map queue.well left → Front d left
+      by-left [] e = absurd (let z : _≡_ {A = ℕ} 0 1 = cc in omega arith)
+      by-left (q ∷ qs) e = record { first = q; others = qs; stands = refl; has = cc; behind = cc }
+
+  -- it is ready to what stands before it, by its numbers
+  pub mouth-ready : (d : Fifo) (left : List Queue) (sink : Bool) → i < n → n ≤ length fs → valuesFrom fs i n ≡ map queue.well left
+      → readyOf (fifo.trusted (getD fs i d)) ≡ mouth left sink
+  mouth-ready d left sink h k e = let f = front d left h k e in rw (f .stands) (ready-of-value _ (f .first) (f .has))
+
+  pub mouth-sink : (left : List Queue) (sink : Bool) → n ≤ i → valuesFrom fs i n ≡ map queue.well left → sink ≡ mouth left sink
+  mouth-sink left sink h e = rw (none-left left h e)
+
+  -- a store at the place serves it
+  pub serve : (served others : List Queue) (f : Fifo) (q : Queue) → i < length fs
+      → valuesBelow fs i ≡ map queue.well served → valuesFrom fs (i + 1) n ≡ map queue.well others → fifo.value f ≡ queue.well q
+      → Split (set fs i f) n (i + 1) (served ++ (q ∷ [])) others
+  serve served others f q h below from e =
+      record { below = below-set fs i n f h ∙ rw (below, e, map-append); from = from-set fs i n f ∙ from }
+
+-- a chain's ready is its first FIFO's
+pub first-ready : (chain : Chain) (d : Fifo) (sink : Bool) → Formed chain → length (chain .fifos) ≡ maxFifos
+    → readyOf (fifo.trusted (getD (chain .fifos) 0 d)) ≡ mouth (queues (value chain)) sink
+first-ready chain d sink f wide =
+    let s = split-start (chain .fifos) (chain .count) (queues (value chain)) (f .row) in
+    mouth-ready (chain .fifos) (chain .count) 0 d (queues (value chain)) sink (f .some) (omega (arith, f .most)) (s .from)
+
+-- so far in a cycle: what is served is as the rule leaves it, and the rest of the row, fed with `offer`, makes the rule's row and outlet
+pub record Cycling (row : List Queue) (source : List Payload) (sink : Bool) (fs : List Fifo) (n i : ℕ) (offer : List Payload) : Type 0 where
+  pub served : List Queue
+  pub left : List Queue
+  pub split : Split fs n i served left
+  pub next : served ++ cycle left offer sink ≡ cycle row source sink
+  pub shows : outlet left offer ≡ outlet row source
+
+pub cycling-start : (fs : List Fifo) (n : ℕ) (row : List Queue) (source : List Payload) (sink : Bool) → lineOf (valuesFrom fs 0 n) ≡ well row
+    → Cycling row source sink fs n 0 source
+cycling-start fs n row source sink e =
+    record { served = []; left = row; split = split-start fs n row e; next = refl; shows = refl }
+
+-- what the FIFO at i shows, as the walk hands it on
+abbrev pub handed : Stepped → List Payload
+handed r = when (r .valid) (r .payload ∷ [])
+
+pub any-handed : (r : Stepped) → isAny (handed r) ≡ r .valid
+any-handed r = by-valid (r .valid)
+  where
+    by-valid : (b : Bool) → isAny (when b (r .payload ∷ [])) ≡ b
+    by-valid true = refl
+    by-valid false = refl
+
+pub record Turned (row : List Queue) (source : List Payload) (sink : Bool) (fs : List Fifo) (n i : ℕ) (r : Stepped) : Type 0 where
+  pub cycling : Cycling row source sink (set fs i (r .next)) n (i + 1) (handed r)
+  pub legal : legalStrb (r .payload) ≡ true
+  pub as-shown : shownAs (handed r) ≡ r .payload
+
+module _ (row : List Queue) (source : List Payload) (sink : Bool) (fs : List Fifo) (n i : ℕ) (d : Fifo) where
+  -- one turn: the FIFO at i steps with `behind`, the ready of what stands behind it
+  pub cycling-on : (offers : Bool) (p : Payload) (behind : Bool) (r : Stepped) → i < n → n ≤ length fs
+      → Cycling row source sink fs n i (when offers (p ∷ [])) → legalStrb p ≡ true
+      → ((others : List Queue) → valuesFrom fs (i + 1) n ≡ map queue.well others → behind ≡ mouth others sink)
+      → fifo.Steps fifo.trusted (getD fs i d) offers p behind false r
+      → Turned row source sink fs n i r
+  cycling-on offers p behind r h k w legal is-behind steps =
+      let f = front fs n i d (w .left) h k (w .split .from) in
+      let q = f .first in
+      let a = trusted-cycles _ q offers p behind false r (f .has) legal steps refl in
+      let offered : handed r ≡ shown q = rw (a .valid, a .payload) (shown-offered q) in
+      record {
+        cycling =
+            record {
+              served = w .served ++ (next q (when offers (p ∷ [])) behind ∷ []);
+              left = f .others;
+              split = serve fs n i (w .served) (f .others) (r .next) _ (omega arith) (w .split .below) (f .behind) (a .next);
+              next = rw (append-assoc, offered, is-behind (f .others) (f .behind)) (rw (f .stands) at (w .next));
+              shows = rw offered (rw (f .stands) at (w .shows));
+            };
+        legal = payload-legal _ q offers p behind false r (f .has) steps;
+        as-shown = ap shownAs offered ∙ sym (a .payload);
+      }
+
+-- at the end the served FIFOs are the rule's row, and the last has shown the rule's outlet
+pub record Ended (row : List Queue) (source : List Payload) (sink : Bool) (fs : List Fifo) (n : ℕ) (offer : List Payload) : Type 0 where
+  pub next : lineOf (valuesFrom fs 0 n) ≡ well (cycle row source sink)
+  pub shows : offer ≡ outlet row source
+
+pub cycling-end : (row : List Queue) (source : List Payload) (sink : Bool) (fs : List Fifo) (n : ℕ) (offer : List Payload)
+    → Cycling row source sink fs n n offer → Ended row source sink fs n offer
+cycling-end row source sink fs n offer w =
+    let none = none-left fs n n (w .left) (omega arith) (w .split .from) in
+    record {
+      next = split-end fs n (w .served) (w .left) (w .split) ∙ ap well (sym (append-nil (w .served)) ∙ (rw none at (w .next)));
+      shows = rw none at (w .shows);
+    }
+
+-- so far in a clear
+pub record Clearing (row : List Queue) (fs : List Fifo) (n i : ℕ) : Type 0 where
+  pub served : List Queue
+  pub left : List Queue
+  pub split : Split fs n i served left
+  pub next : served ++ map emptied left ≡ map emptied row
+
+pub clearing-start : (fs : List Fifo) (n : ℕ) (row : List Queue) → lineOf (valuesFrom fs 0 n) ≡ well row → Clearing row fs n 0
+clearing-start fs n row e = record { served = []; left = row; split = split-start fs n row e; next = refl }
+
+pub clearing-on : (row : List Queue) (fs : List Fifo) (n i : ℕ) (d : Fifo) (offers : Bool) (p : Payload) (sink : Bool) (r : Stepped)
+    → i < n → n ≤ length fs → Clearing row fs n i → legalStrb p ≡ true
+    → fifo.Steps fifo.trusted (getD fs i d) offers p sink true r → Clearing row (set fs i (r .next)) n (i + 1)
+clearing-on row fs n i d offers p sink r h k w legal steps =
+    let f = front fs n i d (w .left) h k (w .split .from) in
+    let a = trusted-clears _ (f .first) offers p sink true r (f .has) legal steps refl in
+    record {
+      served = w .served ++ (emptied (f .first) ∷ []);
+      left = f .others;
+      split = serve fs n i (w .served) (f .others) (r .next) _ (omega arith) (w .split .below) (f .behind) (a .next);
+      next = rw append-assoc (rw (f .stands) at (w .next));
+    }
+
+pub clearing-end : (row : List Queue) (fs : List Fifo) (n : ℕ) → Clearing row fs n n → lineOf (valuesFrom fs 0 n) ≡ well (map emptied row)
+clearing-end row fs n w =
+    let none = none-left fs n n (w .left) (omega arith) (w .split .from) in
+    split-end fs n (w .served) (w .left) (w .split) ∙ ap well (sym (append-nil (w .served)) ∙ (rw none at (w .next)))

@@ -1,0 +1,32 @@
+-- `trace::control_byte` meets its contract: each bit is at most 1, and the strobe at most 15. Assumes nothing.
+use borrow.Author.Needs.{needs}
+use native.Mathlib.Omega.{arith}
+use Rattle.chain.proofs.Tracing.{bit-most}
+use Rattle.chain.proofs.trace.control_byte.Statement.{statement}
+use Rattle.chain.proofs.trace.control_byte.Tie as tie
+
+bit-requires : tie.Need-bit-requires
+bit-requires c κs = search needs
+
+bit-requires-2 : tie.Need-bit-requires-2
+bit-requires-2 c κs = search needs
+
+mul-result : tie.Need-mul-result
+mul-result c = omega (arith, bit-most (c .before .before .args .ready))
+
+add-result : tie.Need-add-result
+add-result c = omega (arith, bit-most (c .before .before .args .ready), bit-most (c .before .before .args .valid))
+
+mul-result-2 : tie.Need-mul-result-2
+mul-result-2 c = search needs
+
+add-result-2 : tie.Need-add-result-2
+add-result-2 c = omega (arith, bit-most (c .before .before .args .ready), bit-most (c .before .before .args .valid))
+
+returns : tie.Need-returns
+returns c = search needs
+
+pub control-byte-spec : {M : Type 1} → statement M
+control-byte-spec =
+    tie.close
+    (tie.spec bit-requires bit-requires-2 mul-result add-result mul-result-2 add-result-2 returns)

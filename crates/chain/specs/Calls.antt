@@ -1,0 +1,157 @@
+-- Document 01, "The stage and the line" and "Refusal numbers": the calls on a line, which refusal is due, and what each answers.
+-- Assumes nothing.
+use Prim.Native.Nat.{ℕ, _+_, _*_}
+use mathlib.Core.Bool.{Bool, true, false, cond, not, _&&_, _||_}
+use mathlib.Core.List.{List, [], _∷_, _++_, map}
+use lib.ListN.{length, drop}
+use lib.Dec.{eqb, leb, ltb}
+use Rattle.signals.specs.declared.Payload.{Payload}
+use Rattle.signals.specs.declared.Refusal.{Refusal}
+use Rattle.signals.specs.declared.Refusal.the-variants.{LengthsDiffer, IllegalBits, TooLong, BadDepth, BadCount, BadState, OutputTooShort}
+use Rattle.signals.specs.declared.Outcome.{Outcome}
+use Rattle.signals.specs.declared.Outcome.the-variants.{Accepted, Refused}
+use Rattle.signals.specs.Refusals.{accepts, maxCycles, anyOf}
+use Rattle.signals.specs.Payloads.{zeros, legalStrb}
+use Rattle.signals.specs.Stream.{sample, reservedBits}
+use Rattle.fifo.specs.Queue.{Queue, empty, legalDepth}
+use Rattle.chain.specs.Cycles.{Cycle, readyIn, outletIn, outletTrace, Outlet, afterAll}
+
+-- one to eight FIFOs
+abbrev pub maxFifos : ℕ
+maxFifos = 8
+
+abbrev pub legalCount : ℕ → Bool
+legalCount k = leb 1 k && leb k maxFifos
+
+-- A line's value: its FIFOs' values, the mouth's first; or nothing, its form being broken.
+pub data Value : Type 0 where
+  ill : Value
+  well : List Queue → Value
+
+abbrev pub isWell : Value → Bool
+isWell ill = false
+isWell (well qs) = true
+
+abbrev pub queues : Value → List Queue
+queues ill = []
+queues (well qs) = qs
+
+-- a new line: refusals 5, then 4
+abbrev pub newOutcome : (depths : List ℕ) → Outcome
+newOutcome depths =
+    cond (legalCount (length depths))
+    (cond (anyOf (λ d. not (legalDepth d)) depths) (Refused BadDepth) Accepted)
+    (Refused BadCount)
+
+-- it is empty; refused, it is one empty FIFO of depth 2
+abbrev pub newLine : (depths : List ℕ) → List Queue
+newLine depths = cond (accepts (newOutcome depths)) (map empty depths) (empty 2 ∷ [])
+
+-- A step with its arguments, or a run with its lent sequences and what its two lent outputs hold.
+pub data Call : Type 0 where
+  step : (valid : Bool) (payload : Payload) (sink clear : Bool) → Call
+  run : (controls words sinks outControls outWords : List ℕ) → Call
+
+-- the refusal due to a step: 6, then 2
+abbrev pub dueStep : (form : Bool) → Payload → Outcome
+dueStep form payload =
+    cond (not form) (Refused BadState)
+    (cond (not (legalStrb payload)) (Refused IllegalBits)
+    Accepted)
+
+-- and to a run: 1, 3, 6, 2, 7
+abbrev pub dueRun : (form : Bool) → (controls words sinks outControls outWords : List ℕ) → Outcome
+dueRun form controls words sinks outControls outWords =
+    cond (not (eqb (length words) (length controls) && eqb (length sinks) (length controls))) (Refused LengthsDiffer)
+    (cond (ltb maxCycles (length controls)) (Refused TooLong)
+    (cond (not form) (Refused BadState)
+    (cond (anyOf reservedBits controls || anyOf (λ s. ltb 1 s) sinks) (Refused IllegalBits)
+    (cond (ltb (length outControls) (length controls) || ltb (length outWords) (length controls)) (Refused OutputTooShort)
+    Accepted))))
+
+abbrev pub due : (form : Bool) → Call → Outcome
+due form (step valid payload sink clear) = dueStep form payload
+due form (run controls words sinks outControls outWords) = dueRun form controls words sinks outControls outWords
+
+-- a run's offers and sink readies, cycle by cycle; the offer's ready bits are not read, and there is no clear
+abbrev pub recorded : (controls words sinks : List ℕ) → List Cycle
+recorded [] words sinks = []
+recorded (c ∷ cs) [] sinks = []
+recorded (c ∷ cs) (w ∷ ws) [] = []
+recorded (c ∷ cs) (w ∷ ws) (s ∷ ss) =
+    record { valid = sample c w .valid; payload = sample c w .payload; sink = eqb s 1; clear = false } ∷ recorded cs ws ss
+
+-- the cycles of a call that is not refused: a step is one, a run as many as its trace has
+abbrev pub asked : Call → List Cycle
+asked (step valid payload sink clear) = record { valid = valid; payload = payload; sink = sink; clear = clear } ∷ []
+asked (run controls words sinks outControls outWords) = recorded controls words sinks
+
+-- the outlet's trace as a run writes it: bits 2 and 3 are 0
+abbrev pub bit : Bool → ℕ
+bit b = cond b 1 0
+
+abbrev pub controlByte : Outlet → ℕ
+controlByte o = bit (o .sample .valid) + 2 * bit (o .sample .ready) + 16 * (o .sample .payload .strb)
+
+abbrev pub dataWord : Outlet → ℕ
+dataWord o = o .sample .payload .«data»
+
+-- entries past those written keep what they had
+abbrev pub writtenOver : (new old : List ℕ) → List ℕ
+writtenOver new old = new ++ drop (length new) old
+
+-- What a step answers; what a run answers, with what its outputs hold afterwards.
+pub record Stepping : Type 0 where
+  pub outcome : Outcome
+  pub ready : Bool
+  pub valid : Bool
+  pub payload : Payload
+
+pub record Running : Type 0 where
+  pub outcome : Outcome
+  pub outControls : List ℕ
+  pub outWords : List ℕ
+
+abbrev pub Answer : Call → Type 0
+Answer (step valid payload sink clear) = Stepping
+Answer (run controls words sinks outControls outWords) = Running
+
+-- the rules' answer, from the lists at the call's start
+abbrev pub accepted : List Queue → (call : Call) → Answer call
+accepted qs (step valid payload sink clear) =
+    let c : Cycle = record { valid = valid; payload = payload; sink = sink; clear = clear } in
+    record {
+      outcome = Accepted;
+      ready = readyIn qs c;
+      valid = outletIn qs c .sample .valid;
+      payload = outletIn qs c .sample .payload;
+    }
+accepted qs (run controls words sinks outControls outWords) =
+    let trace : List Outlet = outletTrace qs (recorded controls words sinks) in
+    record {
+      outcome = Accepted;
+      outControls = writtenOver (map controlByte trace) outControls;
+      outWords = writtenOver (map dataWord trace) outWords;
+    }
+
+-- a refused call's: everything shown is 0, and nothing is written
+abbrev pub refused : Refusal → (call : Call) → Answer call
+refused why (step valid payload sink clear) =
+    record { outcome = Refused why; ready = false; valid = false; payload = zeros }
+refused why (run controls words sinks outControls outWords) =
+    record { outcome = Refused why; outControls = outControls; outWords = outWords }
+
+-- what a call answers to a line of any value, and the value that it gives back
+abbrev pub answerBy : Outcome → Value → (call : Call) → Answer call
+answerBy Accepted v call = accepted (queues v) call
+answerBy (Refused why) v call = refused why call
+
+abbrev pub answer : Value → (call : Call) → Answer call
+answer v call = answerBy (due (isWell v) call) v call
+
+abbrev pub backBy : Outcome → Value → Call → Value
+backBy Accepted v call = well (afterAll (queues v) (asked call))
+backBy (Refused why) v call = v
+
+abbrev pub back : Value → Call → Value
+back v call = backBy (due (isWell v) call) v call

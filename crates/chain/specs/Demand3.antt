@@ -1,0 +1,134 @@
+-- Demand 3 of document 01: a line of FIFOs loses, invents, reorders and overdelays nothing. One claim about a whole list of steps and
+-- runs on one chain; it is proved in `proofs/Demand3.antt`. Assumes nothing.
+use Prim.Native.Nat.{ℕ, _+_, _≤_}
+use mathlib.Core.Bool.{true, false, cond, _&&_}
+use mathlib.Core.List.{List, [], _∷_, _++_, map}
+use mathlib.Core.Path.{_≡_}
+use lib.ListN.{length, take}
+use Rattle.signals.specs.declared.Payload.{Payload}
+use Rattle.signals.specs.declared.Refusal.the-variants.{BadState}
+use Rattle.signals.specs.declared.Outcome.{Outcome}
+use Rattle.signals.specs.declared.Outcome.the-variants.{Accepted, Refused}
+use Rattle.signals.specs.Refusals.{accepts}
+use Rattle.signals.specs.Stream.{sample}
+use Rattle.stream_checker.specs.Rules.{breaksHeld, breaksStable}
+use Rattle.fifo.specs.Queue.{Queue, empty}
+use Rattle.chain.specs.declared.Chain.{Chain}
+use Rattle.chain.specs.declared.NewChain.{NewChain}
+use Rattle.chain.specs.Line.{heldIn}
+use Rattle.chain.specs.Cycles.{Cycle, readyIn, acceptedIn, deliveredIn, after, Outlet}
+use Rattle.chain.specs.Calls.{Call, step, run, Answer, well, due, asked, answer, newOutcome}
+use Rattle.chain.specs.Promises.{value, Made, Done, Promised}
+
+-- A line with what it accepted and delivered since the last clear, or since the start if there was none.
+pub record Ledger : Type 0 where
+  pub line : List Queue
+  pub accepted : List Payload
+  pub delivered : List Payload
+
+abbrev pub opened : (depths : List ℕ) → Ledger
+opened depths = record { line = map empty depths; accepted = []; delivered = [] }
+
+-- a cycle's entry; a clear starts the ledger anew
+abbrev pub entered : Ledger → Cycle → Ledger
+entered l c =
+    record {
+      line = after (l .line) c;
+      accepted = cond (c .clear) [] (l .accepted ++ acceptedIn (l .line) c);
+      delivered = cond (c .clear) [] (l .delivered ++ deliveredIn (l .line) c);
+    }
+
+abbrev pub enteredAll : Ledger → List Cycle → Ledger
+enteredAll l [] = l
+enteredAll l (c ∷ cs) = enteredAll (entered l c) cs
+
+-- Each call is given the chain that the call before gave back, and answers as promised.
+abbrev pub Session : Chain → List Done → Type 0
+Session given [] = Unit {0}
+Session given (d ∷ ds) = Promised given d × Session (d .back) ds
+
+-- the cycles of a call on a line that has its form: a refused call has none
+abbrev pub cyclesBy : Outcome → Call → List Cycle
+cyclesBy Accepted call = asked call
+cyclesBy (Refused why) call = []
+
+abbrev pub cyclesOf : Done → List Cycle
+cyclesOf d = cyclesBy (due true (d .call)) (d .call)
+
+-- the cycles of all calls follow one another in order
+abbrev pub cyclesIn : List Done → List Cycle
+cyclesIn [] = []
+cyclesIn (d ∷ ds) = cyclesOf d ++ cyclesIn ds
+
+-- the outlet as a call answered it: a step by what it shows, a run by what it wrote
+abbrev pub readBack : (controls words : List ℕ) → List Outlet
+readBack [] ws = []
+readBack (c ∷ cs) [] = []
+readBack (c ∷ cs) (w ∷ ws) = record { clear = false; sample = sample c w } ∷ readBack cs ws
+
+abbrev pub outletOf : (call : Call) → Answer call → List Outlet
+outletOf (step valid payload sink clear) a =
+    cond (accepts (a .outcome))
+    (record { clear = clear; sample = record { valid = a .valid; ready = sink; payload = a .payload } } ∷ [])
+    []
+outletOf (run controls words sinks outControls outWords) a =
+    cond (accepts (a .outcome))
+    (readBack (take (length controls) (a .outControls)) (take (length controls) (a .outWords)))
+    []
+
+abbrev pub outletsIn : List Done → List Outlet
+outletsIn [] = []
+outletsIn (d ∷ ds) = outletOf (d .call) (d .answered) ++ outletsIn ds
+
+-- rules 4 and 2 of the stream checker, between a cycle and the next; a clear is not judged and lays no duty
+pub record KeepsRules (before now : Outlet) : Type 0 where
+  pub rule4 : breaksHeld (before .sample) (now .sample) ≡ false
+  pub rule2 : breaksStable (before .sample) (now .sample) ≡ false
+
+-- in how many of the cycles the sink is ready
+abbrev pub readies : List Cycle → ℕ
+readies [] = 0
+readies (c ∷ cs) = cond (c .sink) 1 0 + readies cs
+
+abbrev pub NoClear : List Cycle → Type 0
+NoClear [] = Unit {0}
+NoClear (c ∷ cs) = (c .clear ≡ false) × NoClear cs
+
+-- ys begins with xs
+abbrev pub Begins : (xs ys : List Payload) → Type 0
+Begins xs ys = (more : List Payload) × (ys ≡ xs ++ more)
+
+-- accepted, or refused with which number
+abbrev pub outcomeOf : (call : Call) → Answer call → Outcome
+outcomeOf (step valid payload sink clear) a = a .outcome
+outcomeOf (run controls words sinks outControls outWords) a = a .outcome
+
+-- a call answers, and gives back, what the rules give where the cycles before it left the ledger l; and it is not refused with 6
+pub record Ruled (l : Ledger) (d : Done) : Type 0 where
+  pub answers : d .answered ≡ answer (well (l .line)) (d .call)
+  pub gives : value (d .back) ≡ well (enteredAll l (cyclesOf d) .line)
+  pub not6 : outcomeOf (d .call) (d .answered) ≡ Refused BadState → ⊥
+
+pub record Demand3 (depths : List ℕ) (calls : List Done) : Type 0 where
+  -- after every call
+  pub answers : (past rest : List Done) (d : Done) → calls ≡ past ++ d ∷ rest →
+      Ruled (enteredAll (opened depths) (cyclesIn past)) d
+  -- after every cycle: accepted is, in order, delivered followed by held
+  pub order : (past rest : List Cycle) → cyclesIn calls ≡ past ++ rest →
+      let l = enteredAll (opened depths) past in
+      l .accepted ≡ l .delivered ++ heldIn (l .line)
+  -- between neighbouring cycles, from one call to the next too
+  pub outlet : (past rest : List Outlet) (before now : Outlet) → outletsIn calls ≡ past ++ before ∷ now ∷ rest →
+      before .clear ≡ false → now .clear ≡ false → KeepsRules before now
+  -- accepted in cycle c with n held: delivered by the (n + k)th later cycle in which the sink is ready
+  pub delay : (past stretch rest : List Cycle) (c : Cycle) → cyclesIn calls ≡ past ++ c ∷ stretch ++ rest →
+      let l = enteredAll (opened depths) past in
+      (c .valid && readyIn (l .line) c) ≡ true → NoClear stretch →
+      length (heldIn (l .line)) + length depths ≤ readies stretch →
+      Begins (entered l c .accepted) (enteredAll (entered l c) stretch .delivered)
+
+-- The claim: for every list of depths that `Chain::new` accepts, every chain that it gives, and every session on that chain.
+abbrev pub Claim : Type 0
+Claim =
+    (depths : List ℕ) → newOutcome depths ≡ Accepted → (new : NewChain) → Made depths new →
+    (calls : List Done) → Session (new .chain) calls → Demand3 depths calls
