@@ -1,0 +1,168 @@
+-- Document 01, "Bench text": the form of a bench text, line by line, and the text of a trace. Assumes nothing.
+use Prim.Native.Nat.{ℕ, zero, suc, _+_, _*_}
+use mathlib.Core.Bool.{Bool, true, false, cond, not, _&&_, _||_}
+use mathlib.Core.List.{List, [], _∷_, _++_, map}
+use mathlib.Core.Option.{Option, none, some}
+use lib.ListN.{length}
+use lib.Dec.{eqb, leb, ltb}
+use Rattle.signals.specs.declared.Refusal.{Refusal}
+use Rattle.signals.specs.declared.Refusal.the-variants.{TooLong, BadText}
+use Rattle.bench_text.specs.Digits.{bytes, digitOf, fixed, numberFrom, decimal}
+
+-- the longest trace that a text may announce
+abbrev pub maxAnnounced : ℕ
+maxAnnounced = 4096
+
+-- how many bytes of a text decide any answer: one more than the longest legal text has
+abbrev pub maxText : ℕ
+maxText = 53281
+
+-- A trace with its switch, and what reading a text gives: one of these, or the refusal.
+pub record Trace : Type 0 where
+  pub seq : Bool
+  pub controls : List ℕ
+  pub words : List ℕ
+
+pub data Reading : Type 0 where
+  trace : Trace → Reading
+  refused : Refusal → Reading
+
+-- What is read at the front of a text, and the text after it.
+pub record Front (A : Type 0) : Type 0 where
+  pub item : A
+  pub rest : List ℕ
+
+module _ {A B : Type 0} where
+  -- one item, then what depends on it
+  abbrev pub then : Option (Front A) → (A → List ℕ → Option B) → Option B
+  then none go = none
+  then (some front) go = go (front .item) (front .rest)
+
+-- given bytes
+abbrev pub literal : (given text : List ℕ) → Option (Front (Unit {0}))
+literal [] text = some (record { item = tt; rest = text })
+literal (g ∷ gs) [] = none
+literal (g ∷ gs) (b ∷ text) = cond (eqb b g) (literal gs text) none
+
+-- seq=on or seq=off
+abbrev pub orElse : {A : Type 0} → Option A → Option A → Option A
+orElse none other = other
+orElse (some a) other = some a
+
+abbrev pub switch : List ℕ → Option (Front Bool)
+switch text =
+    orElse (then (literal (bytes "seq=on\n") text) (λ _ rest. some (record { item = true; rest = rest })))
+    (then (literal (bytes "seq=off\n") text) (λ _ rest. some (record { item = false; rest = rest })))
+
+-- the decimal digits at the front of a text
+abbrev pub before : ℕ → Front (List ℕ) → Front (List ℕ)
+before d front = record { item = d ∷ front .item; rest = front .rest }
+
+abbrev pub orEnd : Option ℕ → (text : List ℕ) → Front (List ℕ) → Front (List ℕ)
+orEnd none text front = record { item = []; rest = text }
+orEnd (some d) text front = before d front
+
+abbrev pub digits : List ℕ → Front (List ℕ)
+digits [] = record { item = []; rest = [] }
+digits (b ∷ text) = orEnd (digitOf 10 b) (b ∷ text) (digits text)
+
+-- one to five of them, no leading zero but 0 itself
+abbrev pub legalNumber : (digits : List ℕ) → Bool
+legalNumber [] = false
+legalNumber (d ∷ ds) = leb (length ds) 4 && (leb 1 d || eqb (length ds) 0)
+
+abbrev pub number : List ℕ → Option (Front ℕ)
+number text =
+    cond (legalNumber (digits text .item))
+    (some (record { item = numberFrom 10 0 (digits text .item); rest = digits text .rest }))
+    none
+
+-- cycles=N
+abbrev pub announced : List ℕ → Option (Front ℕ)
+announced text =
+    then (literal (bytes "cycles=") text) λ _ rest.
+    then (number rest) λ cycles rest.
+    then (literal (bytes "\n") rest) λ _ rest.
+    some (record { item = cycles; rest = rest })
+
+-- one hex digit, and k of them after those that stand for n
+abbrev pub atFront : Option ℕ → (rest : List ℕ) → Option (Front ℕ)
+atFront none rest = none
+atFront (some d) rest = some (record { item = d; rest = rest })
+
+abbrev pub hexDigit : List ℕ → Option (Front ℕ)
+hexDigit [] = none
+hexDigit (b ∷ text) = atFront (digitOf 16 b) text
+
+abbrev pub hexFrom : (n k : ℕ) → List ℕ → Option (Front ℕ)
+hexFrom n zero text = some (record { item = n; rest = text })
+hexFrom n (suc k) text = then (hexDigit text) λ d rest. hexFrom (n * 16 + d) k rest
+
+-- c= with two hex digits of control and eight of data
+pub record Entry : Type 0 where
+  pub control : ℕ
+  pub word : ℕ
+
+abbrev pub cycleLine : List ℕ → Option (Front Entry)
+cycleLine text =
+    then (literal (bytes "c=") text) λ _ rest.
+    then (hexFrom 0 2 rest) λ control rest.
+    then (hexFrom 0 8 rest) λ word rest.
+    then (literal (bytes "\n") rest) λ _ rest.
+    some (record { item = record { control = control; word = word }; rest = rest })
+
+-- n of these lines, and nothing after them
+abbrev pub withEntry : Entry → Option (List Entry) → Option (List Entry)
+withEntry e none = none
+withEntry e (some es) = some (e ∷ es)
+
+abbrev pub atEnd : List ℕ → Option (List Entry)
+atEnd [] = some []
+atEnd (b ∷ text) = none
+
+abbrev pub cycleLines : (n : ℕ) → List ℕ → Option (List Entry)
+cycleLines zero text = atEnd text
+cycleLines (suc n) text = then (cycleLine text) λ e rest. withEntry e (cycleLines n rest)
+
+-- the three header lines
+pub record Header : Type 0 where
+  pub seq : Bool
+  pub cycles : ℕ
+
+abbrev pub header : List ℕ → Option (Front Header)
+header text =
+    then (literal (bytes "kind=stream\n") text) λ _ rest.
+    then (switch rest) λ seq rest.
+    then (announced rest) λ cycles rest.
+    some (record { item = record { seq = seq; cycles = cycles }; rest = rest })
+
+-- A whole text: a bad header is 9, then 3, then a bad, missing or surplus cycle line is 9.
+abbrev pub traceOf : (seq : Bool) → Option (List Entry) → Reading
+traceOf seq none = refused BadText
+traceOf seq (some es) =
+    trace (record { seq = seq; controls = map (λ e. e .control) es; words = map (λ e. e .word) es })
+
+abbrev pub afterHeader : Option (Front Header) → Reading
+afterHeader none = refused BadText
+afterHeader (some front) =
+    cond (ltb maxAnnounced (front .item .cycles)) (refused TooLong)
+    (traceOf (front .item .seq) (cycleLines (front .item .cycles) (front .rest)))
+
+unfoldable pub reading : (text : List ℕ) → Reading
+reading text = afterHeader (header text)
+
+-- The text of a trace.
+abbrev pub entryLine : Entry → List ℕ
+entryLine e = bytes "c=" ++ fixed 16 2 (e .control) ++ fixed 16 8 (e .word) ++ bytes "\n"
+
+abbrev pub entryLines : List Entry → List ℕ
+entryLines [] = []
+entryLines (e ∷ es) = entryLine e ++ entryLines es
+
+abbrev pub switchLine : Bool → List ℕ
+switchLine true = bytes "seq=on\n"
+switchLine false = bytes "seq=off\n"
+
+abbrev pub textOf : (seq : Bool) → List Entry → List ℕ
+textOf seq es =
+    bytes "kind=stream\n" ++ switchLine seq ++ bytes "cycles=" ++ decimal (length es) ++ bytes "\n" ++ entryLines es

@@ -1,0 +1,88 @@
+-- What the parser's answers mean for the form: a place in the text stands for the text from there on. Assumes nothing.
+use Prim.Native.Nat.{ℕ, _≤_, _<_, _^_}
+use mathlib.Core.Bool.{Bool, cond}
+use mathlib.Core.List.{List}
+use mathlib.Core.Option.{Option, none, some}
+use mathlib.Core.Path.{_≡_}
+use lib.ListN.{length, drop, take}
+use lib.Dec.{leb}
+use Rattle.signals.specs.declared.Refusal.{Refusal}
+use Rattle.bench_text.specs.Digits.{numberFrom}
+use Rattle.bench_text.specs.Form.{Front, Header, Entry, Reading, trace, refused, hexFrom, cycleLines, traceOf, reading}
+use Rattle.bench_text.specs.declared.parse.Place.{Place}
+use Rattle.bench_text.specs.declared.parse.Place.the-variants as place
+use Rattle.bench_text.specs.declared.parse.Switched.{Switched}
+use Rattle.bench_text.specs.declared.parse.Switched.the-variants as switch
+use Rattle.bench_text.specs.declared.parse.Digit.{Digit}
+use Rattle.bench_text.specs.declared.parse.Digit.the-variants as digit
+use Rattle.bench_text.specs.declared.parse.Number.{Number}
+use Rattle.bench_text.specs.declared.parse.Number.the-variants as number
+use Rattle.bench_text.specs.declared.parse.Line.{Line}
+use Rattle.bench_text.specs.declared.parse.Line.the-variants as line
+use Rattle.bench_text.specs.declared.parse.Headed.{Headed}
+use Rattle.bench_text.specs.declared.parse.Headed.the-variants as header
+use Rattle.bench_text.specs.declared.parse.Parsed.{Parsed}
+use Rattle.bench_text.specs.declared.parse.Parsed.the-variants as parses
+
+-- the decimal digits at the front of a text, after those that stand for n, and at most k of them
+abbrev pub moreDigits : (n k : ℕ) → Front (List ℕ) → Option (Front ℕ)
+moreDigits n k front =
+    cond (leb (length (front .item)) k) (some (record { item = numberFrom 10 n (front .item); rest = front .rest })) none
+
+-- an item at the front, with the text from a place on
+abbrev pub goesOn : {A : Type 0} → A → (next : ℕ) → (text : List ℕ) → Option (Front A)
+goesOn item next text = some (record { item = item; rest = drop next text })
+
+abbrev pub placed : Place → (text : List ℕ) → Option (Front (Unit {0}))
+placed (place.After next) text = goesOn tt next text
+placed place.Nowhere text = none
+
+abbrev pub switched : Switched → (text : List ℕ) → Option (Front Bool)
+switched (switch.Set on next) text = goesOn on next text
+switched switch.Bad text = none
+
+abbrev pub digitFound : Digit → Option ℕ
+digitFound (digit.Is d) = some d
+digitFound digit.Not = none
+
+abbrev pub numbered : Number → (text : List ℕ) → Option (Front ℕ)
+numbered (number.Is value next) text = goesOn value next text
+numbered number.Bad text = none
+
+abbrev pub lined : Line → (text : List ℕ) → Option (Front Entry)
+lined (line.Cycle control word next) text = goesOn (record { control = control; word = word }) next text
+lined line.Bad text = none
+
+abbrev pub headed : Headed → (text : List ℕ) → Option (Front Header)
+headed (header.Good seq cycles next) text = goesOn (record { seq = seq; cycles = cycles }) next text
+headed header.Bad text = none
+
+-- a value below a bound, where there is one
+abbrev pub Below : Number → ℕ → Type 0
+Below (number.Is value next) bound = value < bound
+Below number.Bad bound = Unit {0}
+
+-- what `hex` answers: the number, which has no more than k digits
+pub record ReadsHex (text : List ℕ) (k : ℕ) (at : ℕ) (r : Number) : Type 0 where
+  pub reads : hexFrom 0 k (drop at text) ≡ numbered r text
+  pub below : Below r (16 ^ k)
+
+-- the trace stands at the start of two arrays
+abbrev pub parsed : Parsed → (controls words : List ℕ) → Reading
+parsed (parses.Trace seq cycles) controls words =
+    trace (record { seq = seq; controls = take cycles controls; words = take cycles words })
+parsed (parses.Refused why) controls words = refused why
+
+abbrev pub cyclesOf : Parsed → ℕ
+cyclesOf (parses.Trace seq cycles) = cycles
+cyclesOf (parses.Refused why) = 0
+
+-- what `cycle_lines` answers: the trace of the lines, and no more cycles than the arrays hold
+pub record ReadsLines (text : List ℕ) (from : ℕ) (seq : Bool) (cycles : ℕ) (r : Parsed) (controls words : List ℕ) : Type 0 where
+  pub reads : traceOf seq (cycleLines cycles (drop from text)) ≡ parsed r controls words
+  pub within : (cyclesOf r ≤ length controls) × (cyclesOf r ≤ length words)
+
+-- what `parse` answers: what the form reads, and no more cycles than the arrays hold
+pub record Parses (text : List ℕ) (r : Parsed) (controls words : List ℕ) : Type 0 where
+  pub reads : reading text ≡ parsed r controls words
+  pub within : (cyclesOf r ≤ length controls) × (cyclesOf r ≤ length words)

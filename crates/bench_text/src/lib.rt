@@ -1,0 +1,64 @@
+// From the bytes of a bench text to the bytes of its report.
+//
+// Writes out "Bench text" of document 01. `specs/Form.antt` is the form of a text, `specs/Report.antt` that of a report.
+mod parse;
+mod write;
+
+use parse::MAX_ANNOUNCED;
+use parse::Parsed;
+use parse::parse;
+use signals::Outcome;
+use signals::Refusal;
+use stream_checker::check_stream;
+use write::checked_lines;
+use write::put;
+use write::refused_lines;
+ghost use Rattle.bench_text.specs.Report.{reportOf, Reports};
+ghost use Rattle.bench_text.specs.Writing.{Writes};
+
+// How many bytes of a text decide any answer: one more than the longest legal text has.
+pub const MAX_TEXT: usize = 53281;
+
+// The most bytes that a report has.
+pub const MAX_REPORT: usize = 78;
+
+// Whether the report was written, and how many bytes it has.
+pub struct Reported {
+    pub outcome: Outcome,
+    pub count: usize,
+}
+
+// The report of a text, and how many bytes it has.
+fn made(text: &[u8], out: &mut [u8; MAX_REPORT]) -> usize
+    ensures { λ r. ⌜ Writes (now (out .entry)) 0 (reportOf (now (text .entry))) r (now (out .exit)) ⌝ }
+{
+    let mut control = [0u8; MAX_ANNOUNCED];
+    let mut words = [0u32; MAX_ANNOUNCED];
+    match parse(text, &mut control, &mut words) {
+        Parsed::Trace { seq, cycles } => {
+            let checked = check_stream(&control[..cycles], &words[..cycles], seq);
+            checked_lines(out, cycles, checked)
+        }
+        Parsed::Refused(why) => refused_lines(out, why, 0),
+    }
+}
+
+// Writes the report of a text at the start of `out`. An output that is too short is left as it was.
+pub fn report(text: &[u8], out: &mut [u8]) -> Reported
+    ensures { λ r. ⌜ Reports (now (text .entry)) (now (out .entry)) r (now (out .exit)) ⌝ }
+{
+    let mut whole = [0u8; MAX_REPORT];
+    let count = made(text, &mut whole);
+    if count <= out.len() {
+        put(out, 0, &whole[..count]);
+        Reported {
+            outcome: Outcome::Accepted,
+            count,
+        }
+    } else {
+        Reported {
+            outcome: Outcome::Refused(Refusal::OutputTooShort),
+            count: 0,
+        }
+    }
+}

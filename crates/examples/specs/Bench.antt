@@ -1,0 +1,108 @@
+-- Document 01, "Bench examples": P1 to P12 as one list of questions with the answers that document 01 gives to them, and one claim:
+-- these are the definitions' answers. It is checked by computation. Assumes nothing.
+use Prim.Native.Nat.{ℕ}
+use mathlib.Core.Bool.{Bool, true, false}
+use mathlib.Core.List.{List, [], _∷_, map}
+use mathlib.Core.Path.{_≡_, refl}
+use lib.ListN.{length}
+use Rattle.signals.specs.Written.{Written, number, seq, writtenClean, writtenBroken}
+use Rattle.stream_checker.specs.declared.Checked as stream-checker
+use Rattle.stream_checker.specs.Verdicts.{checkStream}
+use Rattle.stream_checker.specs.Written.{written as streamWritten}
+use Rattle.mem_checker.specs.declared.Checked as mem-checker
+use Rattle.mem_checker.specs.Rules.{Protocol, mem, memDecoupled}
+use Rattle.mem_checker.specs.Verdicts.{checkMem}
+use Rattle.mem_checker.specs.Written.{written as memWritten}
+use Rattle.addressgen.specs.declared.Settings.{Settings}
+use Rattle.addressgen.specs.Stepping.{start, addresses}
+use Rattle.addressgen.specs.Run.{ranOf}
+
+-- a stream trace with its switch: control byte and data of each cycle; a memory trace with its protocol: control byte and add of
+-- each cycle; a generator at its start with its settings, asked for so many addresses
+pub data Question : Type 0 where
+  stream : (seqOn : Bool) → List (ℕ × ℕ) → Question
+  memory : Protocol → List (ℕ × ℕ) → Question
+  generator : Settings → ℕ → Question
+
+-- the verdict as document 01 writes it, the handshake count, and whether the trace is open; or the iteration count and the addresses
+pub data Answer : Type 0 where
+  judged : Written → (handshakes : ℕ) → (isOpen : Bool) → Answer
+  yielded : (count : ℕ) → List ℕ → Answer
+
+-- the two columns of a trace
+abbrev firsts : List (ℕ × ℕ) → List ℕ
+firsts cycles = map (λ c. c .0) cycles
+
+abbrev seconds : List (ℕ × ℕ) → List ℕ
+seconds cycles = map (λ c. c .1) cycles
+
+abbrev streamAnswer : stream-checker.Checked → Answer
+streamAnswer c = judged (streamWritten (c .verdict)) (c .handshakes) false
+
+abbrev memAnswer : mem-checker.Checked → Answer
+memAnswer c = judged (memWritten (c .verdict)) (c .handshakes) (c .«open»)
+
+abbrev generatorAnswer : Settings → (count : ℕ) → Answer
+generatorAnswer s count = yielded count (addresses s start count)
+
+-- the definitions' answer; of a memory trace's data and r_data only the lengths count, and the generator's buffer has n words
+abbrev pub answer : Question → Answer
+answer (stream seqOn cycles) = streamAnswer (checkStream (firsts cycles) (seconds cycles) seqOn)
+answer (memory protocol cycles) =
+    memAnswer (checkMem protocol (firsts cycles) (seconds cycles) (length cycles) (length cycles))
+answer (generator s n) = generatorAnswer s (ranOf s start n n .count)
+
+-- a question with the answer that document 01 gives to it
+pub record Example : Type 0 where
+  pub question : Question
+  pub expected : Answer
+
+infix 80 _gives_
+abbrev pub _gives_ : Question → Answer → Example
+question gives expected = record { question = question; expected = expected }
+
+-- the settings of P9 to P11, which differ in the mask alone
+abbrev p9Settings : (mask : ℕ) → Settings
+p9Settings mask =
+    record { base = 0x1000; d0 = 3; d1 = 2; total = 8; s0 = 4; s1 = 0x20; s2 = 0x100; mask = mask }
+
+abbrev p12Settings : Settings
+p12Settings = record { base = 8; d0 = 0; d1 = 0; total = 4; s0 = 0xfffffffc; s1 = 0; s2 = 0; mask = 0 }
+
+-- Where document 01 names no handshake count, it is the one of its rules. Each generator is asked for 8 addresses.
+abbrev pub examples : List Example
+examples =
+    -- P1 empty stream trace: clean, 0
+    stream false [] gives judged writtenClean 0 false
+    -- P2 the trace of "Bench text": broken, rule 2, at 4, handshakes 1
+    ∷ stream false ((0x02, 0x00) ∷ (0xf1, 0x11) ∷ (0xf3, 0x11) ∷ (0xf1, 0x12) ∷ (0xf3, 0x13) ∷ []) gives
+    judged (writtenBroken (number 2) 4) 1 false
+    -- P3 valid 1 ready 0, then valid 0 with other data: rule 4 at 1
+    ∷ stream false ((0xf1, 0x11) ∷ (0xf0, 0x12) ∷ []) gives judged (writtenBroken (number 4) 1) 0 false
+    -- P4 counters 65535 then 0: clean
+    ∷ stream true ((0xf3, 65535) ∷ (0xf3, 0) ∷ []) gives judged writtenClean 2 false
+    -- P5 a counter twice running: seq at the second
+    ∷ stream true ((0xf3, 7) ∷ (0xf3, 7) ∷ []) gives judged (writtenBroken seq 1) 1 false
+    -- P6 read handshake, then r_valid 0: rule 2 at 1
+    ∷ memory mem ((0xf7, 0) ∷ (0x00, 0) ∷ []) gives judged (writtenBroken (number 2) 1) 1 false
+    -- P7 read handshake alone: clean, open
+    ∷ memory mem ((0xf7, 0) ∷ []) gives judged writtenClean 1 true
+    -- P8 decoupled read then write handshake: rule 4 at 1
+    ∷ memory memDecoupled ((0xf7, 0) ∷ (0xf3, 0) ∷ []) gives judged (writtenBroken (number 4) 1) 1 false
+    -- P9 base 0x1000, d0 3, d1 2, s0 4, s1 0x20, s2 0x100, total 8, mask 3: 1000 1004 1008 1020 1024 1028 1100 1104
+    ∷ generator (p9Settings 3) 8 gives
+    yielded 8 (0x1000 ∷ 0x1004 ∷ 0x1008 ∷ 0x1020 ∷ 0x1024 ∷ 0x1028 ∷ 0x1100 ∷ 0x1104 ∷ [])
+    -- P10 the same, mask 1: last two 1040 1044
+    ∷ generator (p9Settings 1) 8 gives
+    yielded 8 (0x1000 ∷ 0x1004 ∷ 0x1008 ∷ 0x1020 ∷ 0x1024 ∷ 0x1028 ∷ 0x1040 ∷ 0x1044 ∷ [])
+    -- P11 mask 2: 1000 to 101c by 4
+    ∷ generator (p9Settings 2) 8 gives
+    yielded 8 (0x1000 ∷ 0x1004 ∷ 0x1008 ∷ 0x100c ∷ 0x1010 ∷ 0x1014 ∷ 0x1018 ∷ 0x101c ∷ [])
+    -- P12 base 8, s0 0xfffffffc, mask 0, total 4: 8 4 0 fffffffc
+    ∷ generator p12Settings 8 gives yielded 4 (8 ∷ 4 ∷ 0 ∷ 0xfffffffc ∷ [])
+    ∷ []
+
+-- The claim: to every question the definitions give the answer that document 01 gives.
+pub examples-hold : map (λ e. answer (e .question)) examples ≡ map (λ e. e .expected) examples
+unfolding checkStream checkMem
+examples-hold = refl

@@ -1,0 +1,2 @@
+-- The worked examples that are shown about the definitions.
+pub mod Bench

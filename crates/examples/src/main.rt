@@ -1,0 +1,70 @@
+// Runs the Run examples of document 01, "Bench examples": the depths of a FIFO and the length of a trace that are accepted.
+//
+// P1 to P12 are shown in `specs/Bench.antt`.
+use fifo::Fifo;
+use libc::STDOUT_FILENO;
+use signals::MAX_CYCLES;
+use signals::Outcome;
+use signals::Refusal;
+
+// One cycle more than a trace may hold.
+const TOO_MANY: usize = MAX_CYCLES + 1;
+
+fn print_case(name: &[u8], number: usize) {
+    io::write_all(STDOUT_FILENO, name);
+    io::print_decimal(STDOUT_FILENO, number as u64);
+}
+
+fn print_accepted() {
+    io::write_all(STDOUT_FILENO, b": accepted\n");
+}
+
+fn print_refused(why: Refusal) {
+    io::write_all(STDOUT_FILENO, b": refused ");
+    io::print_decimal(STDOUT_FILENO, why.number() as u64);
+    io::write_all(STDOUT_FILENO, b"\n");
+}
+
+// Asks for a new FIFO of a depth.
+fn run_depth(depth: usize) {
+    print_case(b"depth ", depth);
+    let outcome = Fifo::new(depth).outcome;
+    match outcome {
+        Outcome::Accepted => print_accepted(),
+        Outcome::Refused(why) => print_refused(why),
+    }
+}
+
+// Has a stream's trace checked.
+fn run_stream(control: &[u8], data: &[u32]) {
+    print_case(b"stream cycles ", control.len());
+    let verdict = stream_checker::check_stream(control, data, false).verdict;
+    match verdict {
+        stream_checker::Verdict::Refused(why) => print_refused(why),
+        _ => print_accepted(),
+    }
+}
+
+// Has a memory trace checked.
+fn run_memory(control: &[u8], words: &[u32]) {
+    print_case(b"memory cycles ", control.len());
+    let verdict = mem_checker::check_mem(control, words, words, words).verdict;
+    match verdict {
+        mem_checker::Verdict::Refused(why) => print_refused(why),
+        _ => print_accepted(),
+    }
+}
+
+fn main() {
+    run_depth(2);
+    run_depth(16);
+    run_depth(0);
+    run_depth(3);
+    run_depth(18);
+    let control = [0u8; TOO_MANY];
+    let words = [0u32; TOO_MANY];
+    run_stream(&control[..MAX_CYCLES], &words[..MAX_CYCLES]);
+    run_stream(&control, &words);
+    run_memory(&control[..MAX_CYCLES], &words[..MAX_CYCLES]);
+    run_memory(&control, &words);
+}
