@@ -1,0 +1,41 @@
+-- `exports::mem_verdict` meets its contract: in each arm the verdict is known, and its rule's or refusal's number with it. Assumes nothing.
+use borrow.Author.Needs.{needs}
+use Rattle.exports.proofs.checkers.mem_verdict.Statement.{statement}
+use Rattle.exports.proofs.checkers.mem_verdict.Tie as tie
+
+enum-told : tie.Need-enum-told
+enum-told c = search needs
+
+enum-known-verdict : tie.Need-enum-known-verdict
+enum-known-verdict c = search needs
+
+mem-rule-requires : tie.Need-mem-rule-requires
+mem-rule-requires c κs = search needs
+
+enum-known-verdict-2 : tie.Need-enum-known-verdict-2
+enum-known-verdict-2 c = search needs
+
+number-requires : tie.Need-number-requires
+number-requires c κs = search needs
+
+returns : tie.Need-returns
+returns c = rw (c .enum-told .given .1)
+
+returns-2 : tie.Need-returns-2
+returns-2 c = rw (c .before .before .verdict .given .1, c .mem-rule .ensures)
+
+returns-3 : tie.Need-returns-3
+returns-3 c = rw (c .before .before .verdict2 .given .1, c .number .ensures)
+
+pub mem-verdict-spec : {M : Type 1} → statement M
+mem-verdict-spec =
+    tie.close
+    (tie.spec
+    enum-told
+    enum-known-verdict
+    mem-rule-requires
+    enum-known-verdict-2
+    number-requires
+    returns
+    returns-2
+    returns-3)

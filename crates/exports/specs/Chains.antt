@@ -1,0 +1,24 @@
+-- The answers of a chain's calls in numbers. Assumes nothing.
+use Rattle.signals.specs.Refusals.{outcomeNumber}
+use Rattle.chain.specs.declared.NewChain.{NewChain}
+use Rattle.chain.specs.declared.Stepped.{Stepped}
+use Rattle.chain.specs.declared.Ran.{Ran}
+use Rattle.exports.specs.declared.fifos.ChainNew.{ChainNew}
+use Rattle.exports.specs.declared.fifos.ChainStep.{ChainStep}
+use Rattle.exports.specs.declared.fifos.ChainRun.{ChainRun}
+
+abbrev pub newNumbers : NewChain → ChainNew
+newNumbers made = record { refusal = outcomeNumber (made .outcome); chain = made .chain }
+
+abbrev pub stepNumbers : Stepped → ChainStep
+stepNumbers s =
+    record {
+      refusal = outcomeNumber (s .outcome);
+      ready = s .ready;
+      valid = s .valid;
+      payload = s .payload;
+      next = s .next;
+    }
+
+abbrev pub runNumbers : Ran → ChainRun
+runNumbers ran = record { refusal = outcomeNumber (ran .outcome); next = ran .next }

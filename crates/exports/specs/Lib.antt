@@ -1,0 +1,6 @@
+-- What the exported functions promise: the lower crates' promises, with document 01's numbers in place of enums.
+pub mod Numbers
+pub mod Verdicts
+pub mod Fifos
+pub mod Chains
+pub mod Buffers

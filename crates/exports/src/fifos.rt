@@ -1,0 +1,143 @@
+// A FIFO, document 01's stage, and a chain of FIFOs, its line.
+ghost use Rattle.fifo.specs.Promises as ofFifo;
+ghost use Rattle.fifo.specs.Promises.{value, Steps};
+ghost use Rattle.chain.specs.Promises as ofChain;
+ghost use Rattle.chain.specs.Promises.{Promised, stepDone, runDone};
+ghost use Rattle.exports.specs.Numbers.{InNumbers};
+ghost use Rattle.exports.specs.Fifos.{newNumbers, stepNumbers};
+ghost use Rattle.exports.specs.Chains as chains;
+ghost use Rattle.exports.specs.Chains.{runNumbers};
+use chain::Chain;
+use fifo::Fifo;
+use signals::Payload;
+
+#[repr(C)]
+pub struct FifoNew {
+    pub refusal: u8,
+    pub fifo: Fifo,
+}
+
+// What a step shows, and the FIFO after it.
+#[repr(C)]
+pub struct FifoStep {
+    pub refusal: u8,
+    pub ready: bool,
+    pub valid: bool,
+    pub payload: Payload,
+    pub next: Fifo,
+}
+
+#[repr(C)]
+pub struct ChainNew {
+    pub refusal: u8,
+    pub chain: Chain,
+}
+
+// What a step shows, and the chain after it.
+#[repr(C)]
+pub struct ChainStep {
+    pub refusal: u8,
+    pub ready: bool,
+    pub valid: bool,
+    pub payload: Payload,
+    pub next: Chain,
+}
+
+// The chain after a run.
+#[repr(C)]
+pub struct ChainRun {
+    pub refusal: u8,
+    pub next: Chain,
+}
+
+#[no_mangle]
+pub extern "C" fn floealder_fifo_new(depth: usize) -> FifoNew
+    ensures { λ r. ⌜ InNumbers (λ w. ofFifo.Made depth w) newNumbers r ⌝ }
+{
+    let made = Fifo::new(depth);
+    let outcome = made.outcome;
+    let fifo = made.fifo;
+    FifoNew {
+        refusal: crate::refusal(outcome),
+        fifo,
+    }
+}
+
+#[no_mangle]
+pub extern "C" fn floealder_fifo_step(
+    fifo: Fifo,
+    valid: bool,
+    payload: Payload,
+    sink: bool,
+    clear: bool,
+) -> FifoStep
+    ensures { λ r. ⌜ InNumbers (λ w. Steps value fifo valid payload sink clear w) stepNumbers r ⌝ }
+{
+    let stepped = fifo.step(valid, payload, sink, clear);
+    let outcome = stepped.outcome;
+    let shown = stepped.payload;
+    let next = stepped.next;
+    FifoStep {
+        refusal: crate::refusal(outcome),
+        ready: stepped.ready,
+        valid: stepped.valid,
+        payload: shown,
+        next,
+    }
+}
+
+#[no_mangle]
+pub extern "C" fn floealder_chain_new(depths: &[usize]) -> ChainNew
+    ensures { λ r. ⌜ InNumbers (λ w. ofChain.Made (now (depths .entry)) w) chains.newNumbers r ⌝ }
+{
+    let made = Chain::new(depths);
+    let outcome = made.outcome;
+    let chain = made.chain;
+    ChainNew {
+        refusal: crate::refusal(outcome),
+        chain,
+    }
+}
+
+#[no_mangle]
+pub extern "C" fn floealder_chain_step(
+    chain: Chain,
+    valid: bool,
+    payload: Payload,
+    sink: bool,
+    clear: bool,
+) -> ChainStep
+    ensures { λ r. ⌜ InNumbers (λ w. Promised chain (stepDone valid payload sink clear w)) chains.stepNumbers r ⌝ }
+{
+    let stepped = chain.step(valid, payload, sink, clear);
+    let outcome = stepped.outcome;
+    let shown = stepped.payload;
+    let next = stepped.next;
+    ChainStep {
+        refusal: crate::refusal(outcome),
+        ready: stepped.ready,
+        valid: stepped.valid,
+        payload: shown,
+        next,
+    }
+}
+
+#[no_mangle]
+pub extern "C" fn floealder_chain_run(
+    chain: Chain,
+    control: &[u8],
+    data: &[u32],
+    sink: &[u8],
+    out_control: &mut [u8],
+    out_data: &mut [u32],
+) -> ChainRun
+    ensures { λ r. ⌜ InNumbers (λ w. Promised chain (runDone (now (control .entry)) (now («data» .entry)) (now (sink .entry)) (now («out_control» .entry)) (now («out_data» .entry)) w (now («out_control» .exit)) (now («out_data» .exit)))) runNumbers r ⌝ }
+{
+    let ran = chain.run(control, data, sink, out_control, out_data);
+    let outcome = ran.outcome;
+    let next = ran.next;
+    ChainRun {
+        refusal: crate::refusal(outcome),
+        next,
+    }
+}

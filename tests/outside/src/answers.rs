@@ -1,0 +1,129 @@
+//! What the calls take and answer, as they pass through C, in the numbers of document 01.
+
+/// Verdicts by number.
+pub const CLEAN: u8 = 0;
+pub const BROKEN: u8 = 1;
+pub const REFUSED: u8 = 2;
+
+/// The two rules that have a name and no number.
+pub const SEQ: u8 = 100;
+pub const ALIGN: u8 = 101;
+
+pub const MAX_DEPTH: usize = 16;
+pub const MAX_FIFOS: usize = 8;
+
+/// The verdict on a stream's trace; refused, `rule` is the refusal's number.
+#[repr(C)]
+#[derive(Clone, Copy, PartialEq, Eq, Debug)]
+pub struct StreamAnswer {
+    pub verdict: u8,
+    pub rule: u8,
+    pub cycle: u32,
+    pub handshakes: u32,
+}
+
+/// The verdict on a memory trace, and whether a read is open at its end.
+#[repr(C)]
+#[derive(Clone, Copy, PartialEq, Eq, Debug)]
+pub struct MemAnswer {
+    pub verdict: u8,
+    pub rule: u8,
+    pub cycle: u32,
+    pub handshakes: u32,
+    pub open: bool,
+}
+
+#[repr(C)]
+#[derive(Clone, Copy, PartialEq, Eq, Debug)]
+pub struct Payload {
+    pub data: u32,
+    pub strb: u8,
+}
+
+/// A FIFO as it is kept: `count` payloads in the slots from `oldest` on, around the end at `depth`.
+#[repr(C)]
+#[derive(Clone, Copy, PartialEq, Eq, Debug)]
+pub struct Fifo {
+    pub depth: usize,
+    pub count: usize,
+    pub oldest: usize,
+    pub slots: [Payload; MAX_DEPTH],
+}
+
+/// A chain as it is kept: the first `count` of its FIFOs, the mouth's first.
+#[repr(C)]
+#[derive(Clone, Copy, PartialEq, Eq, Debug)]
+pub struct Chain {
+    pub count: usize,
+    pub fifos: [Fifo; MAX_FIFOS],
+}
+
+/// A new FIFO or chain, with the refusal's number, 0 where there is none.
+#[repr(C)]
+#[derive(Clone, Copy, Debug)]
+pub struct New<Kept> {
+    pub refusal: u8,
+    pub kept: Kept,
+}
+
+/// What a step of a FIFO or a chain shows, and what it hands back.
+#[repr(C)]
+#[derive(Clone, Copy, Debug)]
+pub struct Stepped<Kept> {
+    pub refusal: u8,
+    pub ready: bool,
+    pub valid: bool,
+    pub payload: Payload,
+    pub next: Kept,
+}
+
+/// How a run of a chain ended, and what it hands back.
+#[repr(C)]
+#[derive(Clone, Copy, Debug)]
+pub struct ChainRun {
+    pub refusal: u8,
+    pub next: Chain,
+}
+
+/// The address generator's settings.
+#[repr(C)]
+#[derive(Clone, Copy, PartialEq, Eq, Debug)]
+pub struct Settings {
+    pub base: u32,
+    pub d0: u32,
+    pub d1: u32,
+    pub total: u32,
+    pub s0: u32,
+    pub s1: u32,
+    pub s2: u32,
+    pub mask: u8,
+}
+
+/// The address generator's state.
+#[repr(C)]
+#[derive(Clone, Copy, PartialEq, Eq, Debug)]
+pub struct State {
+    pub a0: u32,
+    pub a1: u32,
+    pub a2: u32,
+    pub c0: u32,
+    pub c1: u32,
+    pub ov: u32,
+}
+
+#[repr(C)]
+#[derive(Clone, Copy, PartialEq, Eq, Debug)]
+pub struct AddressRun {
+    pub refusal: u8,
+    pub count: usize,
+    pub state: State,
+    pub done: bool,
+}
+
+/// How a call that fills a buffer of bytes ended, and how many it wrote.
+#[repr(C)]
+#[derive(Clone, Copy, PartialEq, Eq, Debug)]
+pub struct Filled {
+    pub refusal: u8,
+    pub count: usize,
+}

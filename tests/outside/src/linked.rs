@@ -1,0 +1,207 @@
+//! The proved calls, as the library exports them. A slice passes as two arguments, its address and its length.
+
+use crate::answers::*;
+use crate::models::chain::Offered;
+use crate::models::memory::Trace;
+
+extern "C" {
+    fn floealder_check_stream(
+        control: *const u8,
+        controls: usize,
+        data: *const u32,
+        datas: usize,
+        seq: bool,
+    ) -> StreamAnswer;
+    fn floealder_check_mem(
+        control: *const u8,
+        controls: usize,
+        add: *const u32,
+        adds: usize,
+        data: *const u32,
+        datas: usize,
+        r_data: *const u32,
+        r_datas: usize,
+    ) -> MemAnswer;
+    fn floealder_check_mem_decoupled(
+        control: *const u8,
+        controls: usize,
+        add: *const u32,
+        adds: usize,
+        data: *const u32,
+        datas: usize,
+        r_data: *const u32,
+        r_datas: usize,
+    ) -> MemAnswer;
+    fn floealder_fifo_new(depth: usize) -> New<Fifo>;
+    fn floealder_fifo_step(
+        fifo: Fifo,
+        valid: bool,
+        payload: Payload,
+        sink: bool,
+        clear: bool,
+    ) -> Stepped<Fifo>;
+    fn floealder_chain_new(depths: *const usize, count: usize) -> New<Chain>;
+    fn floealder_chain_step(
+        chain: Chain,
+        valid: bool,
+        payload: Payload,
+        sink: bool,
+        clear: bool,
+    ) -> Stepped<Chain>;
+    fn floealder_chain_run(
+        chain: Chain,
+        control: *const u8,
+        controls: usize,
+        data: *const u32,
+        datas: usize,
+        sink: *const u8,
+        sinks: usize,
+        out_control: *mut u8,
+        out_controls: usize,
+        out_data: *mut u32,
+        out_datas: usize,
+    ) -> ChainRun;
+    fn floealder_mux_static(
+        t0: *const u8,
+        cycles0: usize,
+        t1: *const u8,
+        cycles1: usize,
+        select: u8,
+        first: usize,
+        count: usize,
+        out: *mut u8,
+        room: usize,
+    ) -> usize;
+    fn floealder_addressgen_start() -> State;
+    fn floealder_addressgen_run(
+        settings: Settings,
+        state: State,
+        n: usize,
+        out: *mut u32,
+        room: usize,
+    ) -> AddressRun;
+    fn floealder_strobe_plan(address: u32, n: u32, out: *mut u8, room: usize) -> Filled;
+    fn floealder_report(text: *const u8, length: usize, out: *mut u8, room: usize) -> Filled;
+}
+
+// Each call below is safe for every argument: the proved promises ask nothing of the caller.
+
+pub fn check_stream(control: &[u8], data: &[u32], seq: bool) -> StreamAnswer {
+    unsafe {
+        floealder_check_stream(
+            control.as_ptr(),
+            control.len(),
+            data.as_ptr(),
+            data.len(),
+            seq,
+        )
+    }
+}
+
+pub fn check_mem(t: &Trace) -> MemAnswer {
+    unsafe {
+        floealder_check_mem(
+            t.control.as_ptr(),
+            t.control.len(),
+            t.add.as_ptr(),
+            t.add.len(),
+            t.data.as_ptr(),
+            t.data.len(),
+            t.r_data.as_ptr(),
+            t.r_data.len(),
+        )
+    }
+}
+
+pub fn check_mem_decoupled(t: &Trace) -> MemAnswer {
+    unsafe {
+        floealder_check_mem_decoupled(
+            t.control.as_ptr(),
+            t.control.len(),
+            t.add.as_ptr(),
+            t.add.len(),
+            t.data.as_ptr(),
+            t.data.len(),
+            t.r_data.as_ptr(),
+            t.r_data.len(),
+        )
+    }
+}
+
+pub fn fifo_new(depth: usize) -> New<Fifo> {
+    unsafe { floealder_fifo_new(depth) }
+}
+
+pub fn fifo_step(f: Fifo, valid: bool, p: Payload, sink: bool, clear: bool) -> Stepped<Fifo> {
+    unsafe { floealder_fifo_step(f, valid, p, sink, clear) }
+}
+
+pub fn chain_new(depths: &[usize]) -> New<Chain> {
+    unsafe { floealder_chain_new(depths.as_ptr(), depths.len()) }
+}
+
+pub fn chain_step(c: Chain, valid: bool, p: Payload, sink: bool, clear: bool) -> Stepped<Chain> {
+    unsafe { floealder_chain_step(c, valid, p, sink, clear) }
+}
+
+pub fn chain_run(
+    chain: Chain,
+    offered: &Offered,
+    out_control: &mut [u8],
+    out_data: &mut [u32],
+) -> ChainRun {
+    unsafe {
+        floealder_chain_run(
+            chain,
+            offered.control.as_ptr(),
+            offered.control.len(),
+            offered.data.as_ptr(),
+            offered.data.len(),
+            offered.sink.as_ptr(),
+            offered.sink.len(),
+            out_control.as_mut_ptr(),
+            out_control.len(),
+            out_data.as_mut_ptr(),
+            out_data.len(),
+        )
+    }
+}
+
+/// The part's length; its bytes are copied to the output's start, as many as fit.
+pub fn mux_static(
+    traces: [&[u8]; 2],
+    select: u8,
+    first: usize,
+    count: usize,
+    out: &mut [u8],
+) -> usize {
+    unsafe {
+        floealder_mux_static(
+            traces[0].as_ptr(),
+            traces[0].len(),
+            traces[1].as_ptr(),
+            traces[1].len(),
+            select,
+            first,
+            count,
+            out.as_mut_ptr(),
+            out.len(),
+        )
+    }
+}
+
+pub fn addressgen_start() -> State {
+    unsafe { floealder_addressgen_start() }
+}
+
+pub fn addressgen_run(settings: &Settings, state: &State, n: usize, out: &mut [u32]) -> AddressRun {
+    unsafe { floealder_addressgen_run(*settings, *state, n, out.as_mut_ptr(), out.len()) }
+}
+
+pub fn strobe_plan(address: u32, n: u32, out: &mut [u8]) -> Filled {
+    unsafe { floealder_strobe_plan(address, n, out.as_mut_ptr(), out.len()) }
+}
+
+pub fn report(text: &[u8], out: &mut [u8]) -> Filled {
+    unsafe { floealder_report(text.as_ptr(), text.len(), out.as_mut_ptr(), out.len()) }
+}

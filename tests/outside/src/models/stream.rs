@@ -1,0 +1,47 @@
+//! "Stream rules": the verdict on a stream's trace.
+
+use super::{earliest, MAX_CYCLES};
+use crate::answers::{StreamAnswer, BROKEN, CLEAN, REFUSED, SEQ};
+
+fn answer(verdict: u8, rule: u8, cycle: usize, handshakes: usize) -> StreamAnswer {
+    StreamAnswer {
+        verdict,
+        rule,
+        cycle: cycle as u32,
+        handshakes: handshakes as u32,
+    }
+}
+
+pub fn check_stream(control: &[u8], data: &[u32], seq: bool) -> StreamAnswer {
+    let n = control.len();
+    if n != data.len() {
+        return answer(REFUSED, 1, 0, 0);
+    }
+    if n > MAX_CYCLES {
+        return answer(REFUSED, 3, 0, 0);
+    }
+    if control.iter().any(|c| c & 0b1100 != 0) {
+        return answer(REFUSED, 2, 0, 0);
+    }
+    let valid = |c: usize| control[c] & 1 != 0;
+    let ready = |c: usize| control[c] & 2 != 0;
+    let payload = |c: usize| (control[c] >> 4, data[c]);
+    let counter = |c: usize| data[c] as u16;
+    let duty = |c: usize| valid(c - 1) && !ready(c - 1);
+    let handshakes: Vec<usize> = (0..n).filter(|&c| valid(c) && ready(c)).collect();
+
+    let rule_4 = (1..n).find(|&c| duty(c) && !valid(c));
+    let rule_2 = (1..n).find(|&c| duty(c) && valid(c) && payload(c) != payload(c - 1));
+    let rule_seq = handshakes
+        .windows(2)
+        .find(|pair| counter(pair[1]) != counter(pair[0]).wrapping_add(1))
+        .map(|pair| pair[1])
+        .filter(|_| seq);
+    match earliest(&[(4, rule_4), (2, rule_2), (SEQ, rule_seq)]) {
+        None => answer(CLEAN, 0, 0, handshakes.len()),
+        Some((rule, cycle)) => {
+            let before = handshakes.iter().filter(|&&c| c < cycle).count();
+            answer(BROKEN, rule, cycle, before)
+        }
+    }
+}

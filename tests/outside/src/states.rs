@@ -1,0 +1,96 @@
+//! Random FIFOs and chains as they are kept: well-formed ones, with anything in what is unused, and damaged ones.
+
+use crate::answers::{Chain, Fifo, Payload, MAX_DEPTH, MAX_FIFOS};
+use crate::random::Random;
+
+pub fn legal_payload(random: &Random) -> Payload {
+    Payload {
+        data: random.word(),
+        strb: random.byte() % 16,
+    }
+}
+
+/// A payload, once in a while with a strobe above 15.
+pub fn payload(random: &Random) -> Payload {
+    let mut payload = legal_payload(random);
+    if random.once_in(40) {
+        payload.strb = random.byte() | 16;
+    }
+    payload
+}
+
+pub fn legal_depth(random: &Random) -> usize {
+    2 * (1 + random.below(MAX_DEPTH / 2))
+}
+
+pub fn any_depth(random: &Random) -> usize {
+    match random.below(4) {
+        0 => random.pick(&[0, 1, 15, 17, 18, 256, 1 << 32, usize::MAX - 1, usize::MAX]),
+        1 => random.below(20),
+        _ => legal_depth(random),
+    }
+}
+
+/// A well-formed FIFO. Unused slots hold anything.
+pub fn well_fifo(random: &Random) -> Fifo {
+    let depth = legal_depth(random);
+    let count = random.pick(&[0, 1, depth - 1, depth, random.below(depth + 1)]);
+    let oldest = random.below(depth);
+    let mut slots = [(); MAX_DEPTH].map(|()| Payload {
+        data: random.word(),
+        strb: random.byte(),
+    });
+    for i in 0..count {
+        slots[(oldest + i) % depth] = legal_payload(random);
+    }
+    Fifo {
+        depth,
+        count,
+        oldest,
+        slots,
+    }
+}
+
+/// Breaks one field of a FIFO's form, or a strobe in any slot, held or not.
+pub fn damage_fifo(random: &Random, fifo: &mut Fifo) {
+    let depth = fifo.depth;
+    match random.below(4) {
+        0 => fifo.depth = random.pick(&[0, 1, depth - 1, depth + 1, 17, 18, usize::MAX]),
+        1 => fifo.count = random.pick(&[depth + 1, 17, usize::MAX, fifo.count]),
+        2 => fifo.oldest = random.pick(&[depth, depth + 1, 16, usize::MAX, depth - 1]),
+        _ => fifo.slots[random.below(MAX_DEPTH)].strb = random.pick(&[15, 16, 17, 255]),
+    }
+}
+
+pub fn any_fifo(random: &Random) -> Fifo {
+    let mut fifo = well_fifo(random);
+    if random.once_in(4) {
+        damage_fifo(random, &mut fifo);
+    }
+    fifo
+}
+
+/// A well-formed chain. FIFOs past its count are of any form.
+pub fn well_chain(random: &Random) -> Chain {
+    let count = 1 + random.below(MAX_FIFOS);
+    let mut fifos = [(); MAX_FIFOS].map(|()| well_fifo(random));
+    for fifo in &mut fifos[count..] {
+        damage_fifo(random, fifo);
+    }
+    Chain { count, fifos }
+}
+
+/// Breaks a chain's count, or one of its FIFOs, used or not.
+pub fn any_chain(random: &Random) -> Chain {
+    let mut chain = well_chain(random);
+    if random.once_in(4) {
+        if random.once_in(4) {
+            chain.count = random.pick(&[0, 9, 10, usize::MAX, chain.count]);
+        } else {
+            let at = random.below(MAX_FIFOS.min(chain.count + 1));
+            chain.fifos[at] = well_fifo(random);
+            damage_fifo(random, &mut chain.fifos[at]);
+        }
+    }
+    chain
+}

@@ -1,0 +1,158 @@
+//! Random traces: clean ones, and ways to damage them.
+
+use crate::models::memory::Trace;
+use crate::random::Random;
+
+/// How many cycles: mostly few, sometimes many, once in a while at the limit.
+pub fn cycles(random: &Random) -> usize {
+    match random.below(400) {
+        0 => random.pick(&[65_535, 65_536, 65_537, 70_000]),
+        1..=8 => random.below(5_000),
+        9..=80 => random.below(300),
+        _ => random.below(24),
+    }
+}
+
+/// How often a bit is 1, of eight times: never, rarely, by a coin, mostly or always.
+pub fn bias(random: &Random) -> usize {
+    random.pick(&[0, 1, 4, 7, 8, 8])
+}
+
+pub fn drawn(random: &Random, bias: usize) -> bool {
+    random.below(8) < bias
+}
+
+/// A clean stream, whose handshakes carry a counter.
+pub fn clean_stream(random: &Random, cycles: usize) -> (Vec<u8>, Vec<u32>) {
+    drawn_stream(random, cycles, bias(random), bias(random))
+}
+
+/// A clean stream with so many valids and readies among eight cycles.
+pub fn drawn_stream(
+    random: &Random,
+    cycles: usize,
+    valids: usize,
+    readies: usize,
+) -> (Vec<u8>, Vec<u32>) {
+    let mut counter = random.pick(&[0, 1, 65_533, random.word() as u16]);
+    let mut waiting: Option<(u8, u32)> = None;
+    let (mut control, mut data) = (Vec::new(), Vec::new());
+    for _ in 0..cycles {
+        let offered = drawn(random, valids);
+        let ready = drawn(random, readies);
+        let valid = offered || waiting.is_some();
+        let fresh = (
+            random.byte() & 0xf0,
+            random.word() & 0xffff_0000 | u32::from(counter),
+        );
+        let (strb, word) = waiting.take().unwrap_or(fresh);
+        control.push(strb | u8::from(ready) << 1 | u8::from(valid));
+        data.push(if valid { word } else { random.word() });
+        if valid && ready {
+            counter = counter.wrapping_add(1);
+        } else if valid {
+            waiting = Some((strb, word));
+        }
+    }
+    (control, data)
+}
+
+/// A place in a trace, with a liking for its end.
+fn place(random: &Random, length: usize) -> usize {
+    match random.below(4) {
+        0 => length - 1,
+        1 => length - 1 - random.below(length.min(4)),
+        _ => random.below(length),
+    }
+}
+
+/// Changes one bit of a trace's byte or word, or shortens or lengthens one of the two.
+pub fn damage_stream(random: &Random, control: &mut Vec<u8>, data: &mut Vec<u32>) {
+    let length = control.len().min(data.len());
+    if length == 0 || random.once_in(40) {
+        match random.below(3) {
+            0 => control.push(random.byte()),
+            1 => data.push(random.word()),
+            _ => drop(data.pop()),
+        }
+        return;
+    }
+    let at = place(random, length);
+    match random.below(24) {
+        0 => control[at] ^= random.pick(&[4, 8, 12]),
+        1..=5 => control[at] ^= 1,
+        6..=10 => control[at] ^= 2,
+        11..=13 => control[at] ^= 0x10 << random.below(4),
+        14..=18 => data[at] ^= 1 << random.below(32),
+        _ => data[at] = data[at].wrapping_add(1),
+    }
+}
+
+/// A stream of any kind: clean, damaged in a place or two, or drawn bit by bit.
+pub fn stream(random: &Random) -> (Vec<u8>, Vec<u32>) {
+    let n = cycles(random);
+    if random.once_in(20) {
+        let mask = random.pick(&[0xf3, 0xf3, 0x33, 0xff]);
+        let control = (0..n).map(|_| random.byte() & mask).collect();
+        return (control, (0..n).map(|_| random.word() % 3).collect());
+    }
+    let (mut control, mut data) = clean_stream(random, n);
+    for _ in 0..random.pick(&[0, 1, 1, 2, 5]) {
+        damage_stream(random, &mut control, &mut data);
+    }
+    (control, data)
+}
+
+/// A clean memory trace of both protocols, or of HWPE-Mem alone.
+fn clean_memory(random: &Random, cycles: usize) -> Trace {
+    let one_way = random.coin().then(|| random.coin());
+    let (reqs, gnts) = (bias(random), bias(random));
+    let mut owed = false;
+    let (mut control, mut add) = (Vec::new(), Vec::new());
+    for _ in 0..cycles {
+        let req = drawn(random, reqs);
+        let gnt = drawn(random, gnts);
+        let handshake = req && gnt;
+        let read = one_way.filter(|_| handshake).unwrap_or(random.coin());
+        let answered = owed || random.coin();
+        let bits = [req, gnt, read, answered].map(u8::from);
+        let low = bits[0] | bits[1] << 1 | bits[2] << 2 | bits[3] << 3;
+        control.push(low | random.byte() & 0xf0);
+        let address = random.word();
+        add.push(if req { address & !3 } else { address });
+        owed = handshake && read;
+    }
+    let (data, r_data) = (random.words(cycles), random.words(cycles));
+    Trace {
+        control,
+        add,
+        data,
+        r_data,
+    }
+}
+
+/// A memory trace of any kind: clean, damaged in a place or two, or drawn bit by bit.
+pub fn memory(random: &Random) -> Trace {
+    let n = cycles(random);
+    let mut trace = clean_memory(random, n);
+    if random.once_in(20) {
+        trace.control = random.bytes(n);
+    }
+    for _ in 0..random.pick(&[0, 1, 1, 2, 5]) {
+        if random.once_in(60) || n == 0 {
+            match random.below(4) {
+                0 => trace.control.push(random.byte()),
+                1 => trace.add.push(random.word()),
+                2 => trace.data.push(random.word()),
+                _ => drop(trace.r_data.pop()),
+            }
+        } else {
+            let at = place(random, n);
+            match random.below(4) {
+                0 => trace.add[at] ^= 1 << random.below(3),
+                _ => trace.control[at] ^= 1 << random.below(8),
+            }
+        }
+    }
+    trace
+}

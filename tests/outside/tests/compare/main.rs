@@ -1,0 +1,11 @@
+//! Each proved call against its model on many random inputs, valid and damaged, and a check that a wrong call is told apart.
+
+mod addressgen;
+mod bench_text;
+mod chain;
+mod fifo;
+mod memory;
+mod mux;
+mod stream;
+mod strobes;
+mod wrong;

@@ -1,0 +1,23 @@
+use outside::answers::{StreamAnswer, SEQ};
+use outside::random::{agree, same, Compared, Random};
+use outside::{linked, models, traces};
+
+pub fn compare(random: &Random, call: impl Fn(&[u8], &[u32], bool) -> StreamAnswer) -> Compared {
+    let (control, data) = traces::stream(random);
+    let before = (control.clone(), data.clone());
+    let seq = random.coin();
+    let answer = call(&control, &data, seq);
+    let model = models::stream::check_stream(&before.0, &before.1, seq);
+    same("answer", &(answer, seq, &before), &(model, seq, &before))?;
+    same("trace", &(control, data), &before)?;
+    Ok(format!("{} {}", model.verdict, model.rule))
+}
+
+#[test]
+fn check_stream() {
+    let seq = format!("1 {SEQ}");
+    let kinds = ["0 0", "1 4", "1 2", &seq, "2 1", "2 2", "2 3"];
+    agree(150_000, &kinds, |random| {
+        compare(random, linked::check_stream)
+    });
+}
