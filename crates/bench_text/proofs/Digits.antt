@@ -1,7 +1,7 @@
 -- A digit is below its base, and a number of so many digits below the base's power: room for `left` digits more leaves,
 -- after one of them, room for the others. Assumes nothing.
-use mathlib.Core.Path.{_≡_, refl, sym, ap, _∙_}
-use mathlib.Core.Bool.{Bool, true, false, cond, _&&_}
+use mathlib.Core.Path.{_≡_, _∙_}
+use mathlib.Core.Bool.{true, false, _&&_}
 use mathlib.Core.Logic.{_⊎_, inl, inr, ⊎-elim}
 use mathlib.Core.Option.{Option, none, some}
 use Prim.Native.Nat.{ℕ, zero, suc, _+_, _-_, _*_, _^_, _<_, _≤_}
@@ -43,14 +43,16 @@ decimal-digit b d e = ⊎-elim (λ h. h) (λ h. omega arith) (digit-small 10 b d
 pub hex-digit : (b d : ℕ) → digitOf 16 b ≡ some d → d < 16
 hex-digit b d e = ⊎-elim (λ h. omega arith) (λ h. h .1) (digit-small 16 b d e)
 
+-- one digit takes one place
+pub room-step : (base n left d : ℕ) → d < base → (n * base + d + 1) * base ^ left ≤ (n + 1) * base ^ suc left
+room-step base n left d h =
+    let step : n * base + d + 1 ≤ (n + 1) * base = rw (add-mul n 1 base) (omega arith) in
+    rw (pow-succ' base left, ← mul-assoc (n + 1) base (base ^ left)) (mul-le-mul-right (base ^ left) step)
+
 module _ (base n limit : ℕ) where
-  -- one digit takes one place
   pub room-next : (left d : ℕ) → 0 < left → d < base → (n + 1) * base ^ left ≤ limit → (n * base + d + 1) * base ^ (left - 1) ≤ limit
   room-next zero d p h r = absurd (omega arith)
-  room-next (suc left) d p h r =
-      let shorter : suc left - 1 ≡ left = suc-sub-suc left 0 ∙ sub-zero left in
-      let step : n * base + d + 1 ≤ (n + 1) * base = rw (add-mul n 1 base) (omega arith) in
-      rw shorter (le-trans (mul-le-mul-right (base ^ left) step) (rw (mul-assoc (n + 1) base (base ^ left), ← pow-succ' base left) r))
+  room-next (suc left) d p h r = rw (suc-sub-suc left 0 ∙ sub-zero left) (le-trans (room-step base n left d h) r)
 
   -- what has room is below the limit
   pub room-below : (left : ℕ) → 0 < base → (n + 1) * base ^ left ≤ limit → n < limit

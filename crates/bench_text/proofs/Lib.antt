@@ -1,6 +1,11 @@
+pub mod DecidedEarly
 pub mod Digits
 pub mod Lines
 pub mod Literal
 pub mod Numbers
 pub mod Reporting
+pub mod RoundTrip
+pub mod Spelling
+pub mod Texts
+pub mod WholeCase
 pub mod Writing

@@ -1,16 +1,16 @@
 -- One turn of the loop that reads cycle lines: the entries written so far, with the lines from here on, answer for the whole.
 -- Assumes nothing.
-use mathlib.Core.Path.{_≡_, refl, sym, ap, _∙_}
+use mathlib.Core.Path.{_≡_, refl, _∙_}
 use mathlib.Core.Bool.{Bool}
 use mathlib.Core.List.{List, [], _∷_, _++_, map, append-nil, append-assoc}
 use mathlib.Core.Option.{Option, none, some}
-use Prim.Native.Nat.{ℕ, zero, suc, _+_, _-_, _<_, _≤_}
+use Prim.Native.Nat.{ℕ, suc, _+_, _-_, _<_, _≤_}
 use native.Mathlib.Numerals.{add-one}
 use native.Mathlib.Omega.{arith}
-use lib.ListN.{length, drop, take, set, getD, drop-of-length-le}
+use lib.ListN.{length, drop, take, set, drop-of-length-le}
 use lib.Seq.{take-suc-set, drop-cons}
 use Rattle.signals.specs.declared.Refusal.the-variants.{BadText}
-use Rattle.bench_text.specs.Form.{Front, Entry, Reading, trace, refused, cycleLine, cycleLines, withEntry, traceOf}
+use Rattle.bench_text.specs.Form.{Entry, Reading, trace, refused, cycleLine, cycleLines, withEntry, traceOf}
 use Rattle.bench_text.specs.Places.{goesOn}
 
 -- the trace of entries that follow those already read

@@ -1,12 +1,12 @@
--- A report has at most 78 bytes. What stands in the array is the report, so `report` either copies it or leaves the output. Assumes nothing.
+-- A report has at most 78 bytes. What is delivered is copied if it fits, and else the output is left. Assumes nothing.
 use mathlib.Core.Path.{_≡_, refl, sym, ap, _∙_}
 use mathlib.Core.Bool.{Bool, true, false, cond}
-use mathlib.Core.List.{List, [], _∷_, _++_}
-use Prim.Native.Nat.{ℕ, _+_, _<_, _≤_}
+use mathlib.Core.List.{List}
+use Prim.Native.Nat.{ℕ, _<_, _≤_}
 use native.Mathlib.Nat.{zero-add}
 use native.Mathlib.Omega.{arith}
 use borrow.Author.Tests.{le-leb, lt-leb, leb-true}
-use lib.ListN.{length, take, drop, length-take, length-append}
+use lib.ListN.{length, take, length-take, length-append}
 use Rattle.signals.specs.declared.Refusal.the-variants.{OutputTooShort}
 use Rattle.signals.specs.declared.Outcome.the-variants.{Accepted, Refused}
 use lib.Dec.{leb}
@@ -17,7 +17,7 @@ use Rattle.bench_text.specs.declared.Reported.{Reported}
 use Rattle.bench_text.specs.Digits.{bytes}
 use Rattle.bench_text.specs.Form as form
 use Rattle.bench_text.specs.Form.{Reading, reading}
-use Rattle.bench_text.specs.Report.{maxReport, isRefused, wordBytes, ruleBytes, sixLines, lines, reportOn, reportOf, Reports}
+use Rattle.bench_text.specs.Report.{maxReport, isRefused, wordBytes, ruleBytes, sixLines, lines, reportOn, reportOf, Delivers}
 use Rattle.bench_text.specs.Writing.{Writes, Puts}
 use Rattle.bench_text.proofs.Writing.{decimal-short}
 
@@ -67,28 +67,19 @@ writes-length {given = given} w = ap length (w .front) ∙ sym (w .next ∙ zero
 pub writes-inside : {out given exit : List ℕ} {r : ℕ} → Writes out 0 given r exit → r ≤ length exit
 writes-inside {exit = exit} {r = r} w = let e = writes-length w in let l = length-take r exit in omega arith
 
-module _ (text out made whole : List ℕ) (count : ℕ) (w : Writes made 0 (reportOf text) count whole) where
-  long : length (reportOf text) ≡ count
-  long = sym (w .next ∙ zero-add (length (reportOf text)))
+pub delivers-fit : (given out : List ℕ) (r : ℕ) (exit : List ℕ) → length given ≤ length out → Puts out 0 given r exit
+    → Delivers given out (record { outcome = Accepted; count = length given }) exit
+delivers-fit given out r exit h p =
+    let fits = le-leb (length given) (length out) h in
+    record { outcome = rw fits; count = rw fits; writes = rw fits (rw (zero-add (length given)) at (p .whole)) }
 
-  pub reports-fit : (r : ℕ) (exit : List ℕ) → count ≤ length out → Puts out 0 (take count whole) r exit
-      → Reports text out (record { outcome = Accepted; count = count }) exit
-  reports-fit r exit h p =
-      let fits = le-leb (length (reportOf text)) (length out) (rw long h) in
-      record {
-        outcome = rw fits;
-        count = rw (fits, long);
-        writes = rw fits (rw (w .front, zero-add (length (reportOf text))) at (p .whole));
-      }
-
-  pub reports-short : length out < count → Reports text out (record { outcome = Refused OutputTooShort; count = 0 }) out
-  reports-short h =
-      let short = lt-leb (length (reportOf text)) (length out) (rw long h) in
-      record { outcome = rw short; count = rw short; writes = rw short }
+pub delivers-short : (given out : List ℕ) → length out < length given → Delivers given out (record { outcome = Refused OutputTooShort; count = 0 }) out
+delivers-short given out h =
+    let short = lt-leb (length given) (length out) h in record { outcome = rw short; count = rw short; writes = rw short }
 
 -- what is counted lies within the output
-pub count-within : {text out exit : List ℕ} {r : Reported} → Reports text out r exit → r .count ≤ length out
-count-within {text} {out} {exit} {r} p = rw (p .count) (of (length (reportOf text)) (length out) (leb (length (reportOf text)) (length out)) refl)
+pub count-within : {given out exit : List ℕ} {r : Reported} → Delivers given out r exit → r .count ≤ length out
+count-within {given} {out} {exit} {r} p = rw (p .count) (of (length given) (length out) (leb (length given) (length out)) refl)
   where
     of : (m n : ℕ) (b : Bool) → leb m n ≡ b → cond b m 0 ≤ n
     of m n true e = leb-true m n e

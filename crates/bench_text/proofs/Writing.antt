@@ -1,9 +1,9 @@
 -- Bytes that are put one after the other stand one after the other; and one turn of the loop that skips leading zeros.
 -- Assumes nothing.
-use mathlib.Core.Path.{_≡_, refl, sym, ap, _∙_}
+use mathlib.Core.Path.{_≡_, sym, ap, _∙_}
 use mathlib.Core.Bool.{Bool, true, false, cond}
 use mathlib.Core.List.{List, [], _∷_, _++_, append-assoc}
-use Prim.Native.Nat.{ℕ, zero, suc, _+_, _-_, _<_, _≤_}
+use Prim.Native.Nat.{ℕ, suc, _+_, _-_, _<_, _≤_}
 use native.Mathlib.Nat.{add-assoc}
 use native.Mathlib.Numerals.{add-one}
 use native.Mathlib.Omega.{arith}
@@ -63,7 +63,7 @@ unfolding decimal
 digits-left digits first n e rest =
     take-all (5 - first) (drop first digits) (rw (length-drop first digits, ap length e) (omega arith)) ∙ rest ∙ ap withoutZeros e
 
-without-le : (digits : List ℕ) → length (withoutZeros digits) ≤ length digits
+pub without-le : (digits : List ℕ) → length (withoutZeros digits) ≤ length digits
 without-le [] = omega arith
 without-le (d ∷ []) = omega arith
 without-le (d ∷ e ∷ ds) = one (leb d 48) (without-le (e ∷ ds))

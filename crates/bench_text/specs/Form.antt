@@ -1,6 +1,6 @@
 -- Document 01, "Bench text": the form of a bench text, line by line, and the text of a trace. Assumes nothing.
 use Prim.Native.Nat.{ℕ, zero, suc, _+_, _*_}
-use mathlib.Core.Bool.{Bool, true, false, cond, not, _&&_, _||_}
+use mathlib.Core.Bool.{Bool, true, false, cond, _&&_, _||_}
 use mathlib.Core.List.{List, [], _∷_, _++_, map}
 use mathlib.Core.Option.{Option, none, some}
 use lib.ListN.{length}
@@ -163,6 +163,8 @@ abbrev pub switchLine : Bool → List ℕ
 switchLine true = bytes "seq=on\n"
 switchLine false = bytes "seq=off\n"
 
+abbrev pub headerLines : Header → List ℕ
+headerLines h = bytes "kind=stream\n" ++ switchLine (h .seq) ++ bytes "cycles=" ++ decimal (h .cycles) ++ bytes "\n"
+
 abbrev pub textOf : (seq : Bool) → List Entry → List ℕ
-textOf seq es =
-    bytes "kind=stream\n" ++ switchLine seq ++ bytes "cycles=" ++ decimal (length es) ++ bytes "\n" ++ entryLines es
+textOf seq es = headerLines (record { seq = seq; cycles = length es }) ++ entryLines es

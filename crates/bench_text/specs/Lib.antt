@@ -2,5 +2,6 @@
 pub mod Digits
 pub mod Form
 pub mod Places
+pub mod RoundTrip
 pub mod Report
 pub mod Writing

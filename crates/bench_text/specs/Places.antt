@@ -6,7 +6,6 @@ use mathlib.Core.Option.{Option, none, some}
 use mathlib.Core.Path.{_≡_}
 use lib.ListN.{length, drop, take}
 use lib.Dec.{leb}
-use Rattle.signals.specs.declared.Refusal.{Refusal}
 use Rattle.bench_text.specs.Digits.{numberFrom}
 use Rattle.bench_text.specs.Form.{Front, Header, Entry, Reading, trace, refused, hexFrom, cycleLines, traceOf, reading}
 use Rattle.bench_text.specs.declared.parse.Place.{Place}

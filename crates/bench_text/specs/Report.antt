@@ -1,12 +1,11 @@
 -- Document 01, "Bench text": the report of a text, and what `report` promises. Assumes nothing.
 use Prim.Native.Nat.{ℕ}
 use mathlib.Core.Bool.{Bool, true, false, cond}
-use mathlib.Core.List.{List, [], _∷_, _++_}
+use mathlib.Core.List.{List, _++_}
 use mathlib.Core.Path.{_≡_}
 use lib.ListN.{length, drop}
 use lib.Dec.{leb}
 use Rattle.signals.specs.declared.Refusal.the-variants.{OutputTooShort}
-use Rattle.signals.specs.declared.Outcome.{Outcome}
 use Rattle.signals.specs.declared.Outcome.the-variants.{Accepted, Refused}
 use Rattle.signals.specs.Written.{Word, clean, broken, refused, RuleName, number, seq, align, Written, writtenRefused}
 use Rattle.stream_checker.specs.declared.Checked.{Checked}
@@ -65,8 +64,12 @@ reportOn (form.trace t) =
 unfoldable pub reportOf : (text : List ℕ) → List ℕ
 reportOf text = reportOn (reading text)
 
--- the report stands at the start of the output, and what lies beyond stays; an output that is too short is refused with 7
-pub record Reports (text out : List ℕ) (r : Reported) (exit : List ℕ) : Type 0 where
-  pub outcome : r .outcome ≡ cond (leb (length (reportOf text)) (length out)) Accepted (Refused OutputTooShort)
-  pub count : r .count ≡ cond (leb (length (reportOf text)) (length out)) (length (reportOf text)) 0
-  pub writes : exit ≡ cond (leb (length (reportOf text)) (length out)) (reportOf text ++ drop (length (reportOf text)) out) out
+-- What is given stands at the start of the output, and what lies beyond stays; an output that is too short is refused with 7.
+pub record Delivers (given out : List ℕ) (r : Reported) (exit : List ℕ) : Type 0 where
+  pub outcome : r .outcome ≡ cond (leb (length given) (length out)) Accepted (Refused OutputTooShort)
+  pub count : r .count ≡ cond (leb (length given) (length out)) (length given) 0
+  pub writes : exit ≡ cond (leb (length given) (length out)) (given ++ drop (length given) out) out
+
+-- what `report` promises of any text and any output
+abbrev pub Reports : (text out : List ℕ) (r : Reported) (exit : List ℕ) → Type 0
+Reports text out r exit = Delivers (reportOf text) out r exit

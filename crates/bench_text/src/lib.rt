@@ -8,10 +8,9 @@ use parse::MAX_ANNOUNCED;
 use parse::Parsed;
 use parse::parse;
 use signals::Outcome;
-use signals::Refusal;
 use stream_checker::check_stream;
 use write::checked_lines;
-use write::put;
+use write::deliver;
 use write::refused_lines;
 ghost use Rattle.bench_text.specs.Report.{reportOf, Reports};
 ghost use Rattle.bench_text.specs.Writing.{Writes};
@@ -49,16 +48,5 @@ pub fn report(text: &[u8], out: &mut [u8]) -> Reported
 {
     let mut whole = [0u8; MAX_REPORT];
     let count = made(text, &mut whole);
-    if count <= out.len() {
-        put(out, 0, &whole[..count]);
-        Reported {
-            outcome: Outcome::Accepted,
-            count,
-        }
-    } else {
-        Reported {
-            outcome: Outcome::Refused(Refusal::OutputTooShort),
-            count: 0,
-        }
-    }
+    deliver(&whole[..count], out)
 }

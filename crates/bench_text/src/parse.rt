@@ -7,7 +7,6 @@ ghost use Prim.Native.Nat.{_≤_, _+_, _*_, _^_};
 ghost use lib.ListN.{length, drop};
 ghost use Rattle.bench_text.specs.Digits.{digitOf};
 ghost use Rattle.bench_text.specs.Form as form;
-ghost use Rattle.bench_text.specs.Form.{maxAnnounced};
 ghost use Rattle.bench_text.specs.Places.{placed, switched, digitFound, moreDigits, numbered, ReadsHex, lined, headed, ReadsLines, Parses};
 
 // The longest trace that a text may announce.
@@ -94,16 +93,16 @@ fn switch(text: &[u8], at: usize) -> Switched
 fn digit_of(base: u8, byte: u8) -> Digit
     ensures { λ r. ⌜ digitOf base byte ≡ digitFound r ⌝ }
 {
-    if (48 <= byte) & (byte <= 57) {
-        return Digit::Is(byte - 48);
+    if (b'0' <= byte) & (byte <= b'9') {
+        return Digit::Is(byte - b'0');
     }
-    if (16 <= base) & ((97 <= byte) & (byte <= 102)) {
+    if (16 <= base) & ((b'a' <= byte) & (byte <= b'f')) {
         return Digit::Is(byte - 87);
     }
     Digit::Not
 }
 
-// The decimal digits from a place on, after those that stand for `value`, if there are no more than `room`.
+// The decimal digits from a place on, after those that stand for `first`, if there are no more than `room`.
 fn more_digits(text: &[u8], at: usize, first: u32, room: usize) -> Number
     requires { ⌜ (first + 1) * 10 ^ room ≤ 10 ^ 5 ⌝ }
     ensures { λ r. ⌜ moreDigits first room (form.digits (drop at (now (text .entry)))) ≡ numbered r (now (text .entry)) ⌝ }

@@ -2,6 +2,8 @@
 //
 // `specs/Report.antt` has the lines, and `specs/Writing.antt` says what stands in the array afterwards.
 use crate::MAX_REPORT;
+use crate::Reported;
+use signals::Outcome;
 use signals::Refusal;
 use stream_checker::Checked;
 use stream_checker::Rule;
@@ -13,11 +15,11 @@ ghost use Rattle.signals.specs.Written.{writtenRefused};
 ghost use Rattle.stream_checker.specs.Written.{written};
 ghost use Rattle.bench_text.specs.Digits.{digitByte, fixed, decimal};
 ghost use Rattle.bench_text.specs.Report as spec;
-ghost use Rattle.bench_text.specs.Report.{sixLines, lines};
+ghost use Rattle.bench_text.specs.Report.{sixLines, lines, Delivers};
 ghost use Rattle.bench_text.specs.Writing.{Writes, Puts, FirstDigit};
 
 // Given bytes, from a place on; answers the place after them.
-pub fn put(out: &mut [u8], at: usize, given: &[u8]) -> usize
+fn put(out: &mut [u8], at: usize, given: &[u8]) -> usize
     requires { ⌜ at + length (now given) ≤ length (now out) ⌝ }
     ensures { λ r. ⌜ Puts (now (out .entry)) at (now (given .entry)) r (now (out .exit)) ⌝ }
 {
@@ -45,7 +47,7 @@ fn line(out: &mut [u8], at: usize, key: &[u8], value: &[u8]) -> usize
 fn figure(n: usize) -> u8
     ensures { λ r. ⌜ r ≡ digitByte (n % 10) ⌝ }
 {
-    48 + (n % 10) as u8
+    b'0' + (n % 10) as u8
 }
 
 // A number's lowest five decimal digits.
@@ -72,7 +74,7 @@ fn first_digit(digits: &[u8]) -> usize
 {
     let mut i = 0;
     while i < digits.len() - 1 {
-        if 48 < digits[i] {
+        if b'0' < digits[i] {
             return i;
         }
         i += 1;
@@ -134,5 +136,24 @@ pub fn checked_lines(out: &mut [u8; MAX_REPORT], cycles: usize, checked: Checked
             Rule::Seq => six_lines(out, b"stream", cycles, b"broken", b"seq", at, handshakes),
         },
         Verdict::Refused(why) => refused_lines(out, why, handshakes),
+    }
+}
+
+// Given bytes at the start of an output that has room for them; another is left as it was.
+pub fn deliver(given: &[u8], out: &mut [u8]) -> Reported
+    ensures { λ r. ⌜ Delivers (now (given .entry)) (now (out .entry)) r (now (out .exit)) ⌝ }
+{
+    let count = given.len();
+    if count <= out.len() {
+        put(out, 0, given);
+        Reported {
+            outcome: Outcome::Accepted,
+            count,
+        }
+    } else {
+        Reported {
+            outcome: Outcome::Refused(Refusal::OutputTooShort),
+            count: 0,
+        }
     }
 }

@@ -1,8 +1,6 @@
 -- `bench_text::made` meets its contract: a trace that is read goes to the checker. Assumes nothing.
 use mathlib.Core.Path.{sym}
 use borrow.Author.Needs.{needs}
-use native.Mathlib.Omega.{arith}
-use lib.ListN.{length}
 use lib.Seq.{length-take-le}
 use Rattle.bench_text.specs.Report.{reportOf}
 use Rattle.bench_text.proofs.made.Statement.{statement}

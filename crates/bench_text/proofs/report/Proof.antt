@@ -1,8 +1,7 @@
--- `bench_text::report` meets its contract: the report is made in an array, then copied if it fits. Assumes nothing.
+-- `bench_text::report` meets its contract: the report is made in an array, and delivered. Assumes nothing.
 use mathlib.Core.Path.{sym}
 use borrow.Author.Needs.{needs}
-use native.Mathlib.Omega.{arith}
-use Rattle.bench_text.proofs.Reporting.{writes-length, writes-inside, reports-fit, reports-short}
+use Rattle.bench_text.proofs.Reporting.{writes-length, writes-inside}
 use Rattle.bench_text.proofs.report.Statement.{statement}
 use Rattle.bench_text.proofs.report.Tie as tie
 
@@ -10,22 +9,19 @@ made-requires : tie.Need-made-requires
 made-requires c κs = search needs
 
 array-share-prefix-whole : tie.Need-array-share-prefix-whole
-array-share-prefix-whole c = writes-inside (c .before .before .made .ensures)
+array-share-prefix-whole c = writes-inside (c .made .ensures)
 
-slice-aggregate-put : tie.Need-slice-aggregate-put
-slice-aggregate-put c = sym (writes-length (c .before .before .before .made .ensures))
+slice-aggregate-deliver : tie.Need-slice-aggregate-deliver
+slice-aggregate-deliver c = sym (writes-length (c .before .made .ensures))
 
-put-requires : tie.Need-put-requires
-put-requires c κs = omega (arith, writes-length (c .before .before .before .made .ensures))
+deliver-requires : tie.Need-deliver-requires
+deliver-requires c κs = search needs
 
 same-length : tie.Need-same-length
 same-length c = search needs
 
 returns : tie.Need-returns
-returns c = reports-fit _ _ _ _ _ (c .before .before .before .before .before .before .made .ensures) _ _ (c .before .before .before .before .before .if1 .taken) (c .before .before .put .ensures)
-
-returns-2 : tie.Need-returns-2
-returns-2 c = reports-short _ _ _ _ _ (c .before .made .ensures) (c .if1 .left)
+returns c = rw (c .before .before .before .before .before .made .ensures .front) at (c .before .before .deliver .ensures)
 
 pub report-spec : {M : Type 1} → statement M
 report-spec =
@@ -33,8 +29,7 @@ report-spec =
     (tie.spec
     made-requires
     array-share-prefix-whole
-    slice-aggregate-put
-    put-requires
+    slice-aggregate-deliver
+    deliver-requires
     same-length
-    returns
-    returns-2)
+    returns)

@@ -8,8 +8,6 @@ use Rattle.bench_text.specs.Form as form
 use Rattle.bench_text.proofs.Literal.{literal-short, literal-differs, literal-goes-on, literal-ends}
 use Rattle.bench_text.proofs.parse.literal.Statement.{statement}
 use Rattle.bench_text.proofs.parse.literal.Tie as tie
-use Rattle.bench_text.proofs.parse.literal.Reads as reads
-use Rattle.bench_text.proofs.parse.literal.Lts as lts
 
 abbrev Inv-loop : tie.InvT-loop
 Inv-loop text at given next₀ i₀ next i = (i ≤ length given) × (form.literal given (drop at text) ≡ form.literal (drop i given) (drop next text))

@@ -1,5 +1,5 @@
 -- `bench_text::parse::short_number` meets its contract: the first digit decides how many may follow. Assumes nothing.
-use mathlib.Core.Path.{_≡_, ap, _∙_}
+use mathlib.Core.Path.{ap, _∙_}
 use borrow.Author.Needs.{needs}
 use native.Mathlib.Omega.{arith}
 use lib.ListN.{getD}
