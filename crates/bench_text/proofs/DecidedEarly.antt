@@ -13,6 +13,7 @@ use lib.Dec.{leb}
 use Rattle.signals.proofs.Bools.{either}
 use Rattle.bench_text.specs.Digits.{digitByte, decimal}
 use Rattle.bench_text.specs.Form.{maxAnnounced, maxText, Entry, Header, Trace, Reading, reading, switchLine, entryLines, headerLines, textOf}
+use Rattle.bench_text.specs.Report.{reportOn, reportOf}
 use Rattle.bench_text.specs.RoundTrip.{OfForm, TooMany, DecidedEarly}
 use Rattle.bench_text.proofs.RoundTrip.{View, read, many, bad, view, many-reads}
 use Rattle.bench_text.proofs.Writing.{without-le, decimal-short}
@@ -96,3 +97,8 @@ decided-early text = ⊎-elim short long (either (leb (length text) maxText))
 
     long : leb (length text) maxText ≡ false → reading (take maxText text) ≡ reading text
     long f = agree text (leb-false (length text) maxText f) (view (take maxText text)) (view text) refl refl
+
+-- and so is its report
+pub report-early : (text : List ℕ) → reportOf (take maxText text) ≡ reportOf text
+unfolding reportOf
+report-early text = ap reportOn (decided-early text)

@@ -3,6 +3,7 @@ pub mod Digits
 pub mod Lines
 pub mod Literal
 pub mod Numbers
+pub mod NumbersFit
 pub mod Reporting
 pub mod RoundTrip
 pub mod Spelling

@@ -39,18 +39,18 @@ sixLines kind cycles verdict rule at handshakes =
     ++ line (bytes "at=") (decimal at)
     ++ line (bytes "handshakes=") (decimal handshakes)
 
--- with the announced number of cycles, but kind none and 0 cycles for a refused text
 abbrev pub isRefused : Word → Bool
 isRefused clean = false
 isRefused broken = false
 isRefused refused = true
 
+-- with the announced number of cycles, but kind none and 0 cycles for a refused text
 abbrev pub lines : (cycles : ℕ) → Written → (handshakes : ℕ) → List ℕ
 lines cycles w handshakes =
     sixLines (cond (isRefused (w .verdict)) (bytes "none") (bytes "stream")) (cond (isRefused (w .verdict)) 0 cycles)
     (wordBytes (w .verdict)) (ruleBytes (w .rule)) (w .cycle) handshakes
 
--- the most bytes that it has
+-- the most bytes that a report has
 abbrev pub maxReport : ℕ
 maxReport = 78
 

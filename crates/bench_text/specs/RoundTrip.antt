@@ -31,7 +31,7 @@ pub record OfForm (text : List ℕ) (t : Trace) : Type 0 where
   pub text-is : text ≡ textOf seq entries
   pub trace-is : t ≡ traceFrom seq entries
 
--- A text has a good header that announces too many cycles; whatever follows.
+-- A text has a good header that announces too many cycles, in five digits at most; whatever follows.
 pub record TooMany (text : List ℕ) : Type 0 where
   pub header : Header
   pub rest : List ℕ
