@@ -1,6 +1,16 @@
 -- `Chain::due` meets its contract: the tests follow document 01's order of the refusals of a run. Assumes nothing.
 use borrow.Author.Needs.{needs}
 use borrow.Author.Tests.{lt-ltb, le-ltb}
+use Prim.Native.Nat.{ℕ}
+use mathlib.Core.Bool.{cond, _||_}
+use mathlib.Core.List.{List}
+use mathlib.Core.Path.{_≡_}
+use lib.Dec.{ltb}
+use lib.ListN.{length}
+use Rattle.signals.specs.declared.Outcome.the-variants.{Accepted, Refused}
+use Rattle.signals.specs.declared.Refusal.the-variants.{OutputTooShort}
+use Rattle.chain.specs.Calls.{isWell, dueRun}
+use Rattle.chain.specs.Promises.{value}
 use Rattle.chain.proofs.Chain.due.Statement.{statement}
 use Rattle.chain.proofs.Chain.due.Tie as tie
 
@@ -29,37 +39,28 @@ returns-2 c outControls outWords h k =
       c .if4 .taken,
     )
 
-returns-3 : tie.Need-returns-3
-returns-3 c outControls outWords h k =
-    let formed = c .before .before .before .before in
+-- past the other tests only the room of the outputs is left
+room-left : (c : tie.Else4) (outControls outWords : List ℕ) →
+    let a = c .before .before .before .before .before .before .before .before .before .before .args in
+    dueRun (isWell (value (a .self))) (a .control .now) (a .«data» .now) (a .sink .now) outControls outWords
+    ≡ cond (ltb (length outControls) (length (a .control .now)) || ltb (length outWords) (length (a .control .now))) (Refused OutputTooShort) Accepted
+room-left c outControls outWords =
+    let formed = c .before .before .before in
     rw (
       formed .before .before .before .if1 .taken,
       le-ltb _ _ (formed .before .before .if2 .left),
       ← formed .before .is-well .ensures,
       formed .if3 .taken,
-      ← c .before .before .before .any-reserved .ensures,
-      ← c .before .before .any-above-one .ensures,
-      c .before .if4 .left,
-      h,
-      k,
-      c .if5 .taken,
+      ← c .before .before .any-reserved .ensures,
+      ← c .before .any-above-one .ensures,
+      c .if4 .left,
     )
 
+returns-3 : tie.Need-returns-3
+returns-3 c outControls outWords h k = rw (room-left (c .before) outControls outWords, h, k, c .if5 .taken)
+
 returns-4 : tie.Need-returns-4
-returns-4 c outControls outWords h k =
-    let formed = c .before .before .before .before in
-    rw (
-      formed .before .before .before .if1 .taken,
-      le-ltb _ _ (formed .before .before .if2 .left),
-      ← formed .before .is-well .ensures,
-      formed .if3 .taken,
-      ← c .before .before .before .any-reserved .ensures,
-      ← c .before .before .any-above-one .ensures,
-      c .before .if4 .left,
-      h,
-      k,
-      c .if5 .left,
-    )
+returns-4 c outControls outWords h k = rw (room-left (c .before) outControls outWords, h, k, c .if5 .left)
 
 returns-5 : tie.Need-returns-5
 returns-5 c outControls outWords h k =
