@@ -8,7 +8,9 @@ use mathlib.Core.Path.{_≡_}
 use lib.Dec.{ltb}
 use lib.ListN.{length}
 use Rattle.signals.specs.declared.Outcome.the-variants.{Accepted, Refused}
-use Rattle.signals.specs.declared.Refusal.the-variants.{OutputTooShort}
+use Rattle.signals.specs.declared.Refusal.the-variants.{IllegalBits, OutputTooShort}
+use Rattle.signals.specs.Refusals.{anyOf}
+use Rattle.signals.specs.Stream.{reservedBits}
 use Rattle.chain.specs.Calls.{isWell, dueRun}
 use Rattle.chain.specs.Promises.{value}
 use Rattle.chain.proofs.Chain.due.Statement.{statement}
@@ -26,31 +28,39 @@ any-reserved-requires c κs = search needs
 any-above-one-requires : tie.Need-any-above-one-requires
 any-above-one-requires c κs = search needs
 
+-- what is left to test of a chain that has its form: the bits, then the room of the outputs
+bits-left : (c : tie.Then3) (outControls outWords : List ℕ) →
+    let a = c .before .before .before .before .before .before .before .args in
+    let controls = a .control .now in
+    dueRun (isWell (value (a .self))) controls (a .«data» .now) (a .sink .now) outControls outWords
+    ≡ cond (anyOf reservedBits controls || anyOf (λ s. ltb 1 s) (a .sink .now)) (Refused IllegalBits)
+    (cond (ltb (length outControls) (length controls) || ltb (length outWords) (length controls)) (Refused OutputTooShort) Accepted)
+bits-left c outControls outWords =
+    rw (
+      c .before .before .before .if1 .taken,
+      le-ltb _ _ (c .before .before .if2 .left),
+      ← c .before .is-well .ensures,
+      c .if3 .taken,
+    )
+
 returns-2 : tie.Need-returns-2
 returns-2 c outControls outWords h k =
-    let formed = c .before .before .before in
     rw (
-      formed .before .before .before .if1 .taken,
-      le-ltb _ _ (formed .before .before .if2 .left),
-      ← formed .before .is-well .ensures,
-      formed .if3 .taken,
+      bits-left (c .before .before .before) outControls outWords,
       ← c .before .before .any-reserved .ensures,
       ← c .before .any-above-one .ensures,
       c .if4 .taken,
     )
 
--- past the other tests only the room of the outputs is left
+-- and past the bits, the room alone
 room-left : (c : tie.Else4) (outControls outWords : List ℕ) →
     let a = c .before .before .before .before .before .before .before .before .before .before .args in
-    dueRun (isWell (value (a .self))) (a .control .now) (a .«data» .now) (a .sink .now) outControls outWords
-    ≡ cond (ltb (length outControls) (length (a .control .now)) || ltb (length outWords) (length (a .control .now))) (Refused OutputTooShort) Accepted
+    let controls = a .control .now in
+    dueRun (isWell (value (a .self))) controls (a .«data» .now) (a .sink .now) outControls outWords
+    ≡ cond (ltb (length outControls) (length controls) || ltb (length outWords) (length controls)) (Refused OutputTooShort) Accepted
 room-left c outControls outWords =
-    let formed = c .before .before .before in
     rw (
-      formed .before .before .before .if1 .taken,
-      le-ltb _ _ (formed .before .before .if2 .left),
-      ← formed .before .is-well .ensures,
-      formed .if3 .taken,
+      bits-left (c .before .before .before) outControls outWords,
       ← c .before .before .any-reserved .ensures,
       ← c .before .any-above-one .ensures,
       c .if4 .left,
