@@ -4,3 +4,4 @@ pub mod Verdicts
 pub mod Fifos
 pub mod Chains
 pub mod Buffers
+pub mod Fields

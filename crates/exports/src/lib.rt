@@ -4,6 +4,7 @@
 // accepted, else the refusal's number. `specs/` says how.
 mod buffers; // buffers.rt: mux, address generator, strobe plan and bench text
 mod checkers; // checkers.rt: the verdicts on traces
+mod fields; // fields.rt: the control bytes
 mod fifos; // fifos.rt: a FIFO, and a chain of them
 
 ghost use mathlib.Core.Path.{_≡_};

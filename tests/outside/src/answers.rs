@@ -127,3 +127,23 @@ pub struct Filled {
     pub refusal: u8,
     pub count: usize,
 }
+
+/// The fields of a stream's control byte.
+#[repr(C)]
+#[derive(Clone, Copy, PartialEq, Debug)]
+pub struct StreamFields {
+    pub valid: bool,
+    pub ready: bool,
+    pub reserved: bool,
+    pub strb: u8,
+}
+
+/// The fields of a memory trace's control byte that are judged.
+#[repr(C)]
+#[derive(Clone, Copy, PartialEq, Debug)]
+pub struct MemFields {
+    pub req: bool,
+    pub gnt: bool,
+    pub wen: bool,
+    pub r_valid: bool,
+}

@@ -40,6 +40,18 @@ extern "C" {
         sink: bool,
         clear: bool,
     ) -> Stepped<Fifo>;
+    fn floealder_fifo_step_trusted(
+        fifo: Fifo,
+        valid: bool,
+        payload: Payload,
+        sink: bool,
+        clear: bool,
+    ) -> Stepped<Fifo>;
+    fn floealder_fifo_is_well(fifo: Fifo) -> bool;
+    fn floealder_fifo_is_ready(fifo: Fifo) -> bool;
+    fn floealder_stream_fields(control: u8) -> StreamFields;
+    fn floealder_any_reserved(control: *const u8, controls: usize) -> bool;
+    fn floealder_memory_fields(control: u8) -> MemFields;
     fn floealder_chain_new(depths: *const usize, count: usize) -> New<Chain>;
     fn floealder_chain_step(
         chain: Chain,
@@ -134,6 +146,36 @@ pub fn fifo_new(depth: usize) -> New<Fifo> {
 
 pub fn fifo_step(f: Fifo, valid: bool, p: Payload, sink: bool, clear: bool) -> Stepped<Fifo> {
     unsafe { floealder_fifo_step(f, valid, p, sink, clear) }
+}
+
+pub fn fifo_step_trusted(
+    f: Fifo,
+    valid: bool,
+    p: Payload,
+    sink: bool,
+    clear: bool,
+) -> Stepped<Fifo> {
+    unsafe { floealder_fifo_step_trusted(f, valid, p, sink, clear) }
+}
+
+pub fn fifo_is_well(f: Fifo) -> bool {
+    unsafe { floealder_fifo_is_well(f) }
+}
+
+pub fn fifo_is_ready(f: Fifo) -> bool {
+    unsafe { floealder_fifo_is_ready(f) }
+}
+
+pub fn stream_fields(control: u8) -> StreamFields {
+    unsafe { floealder_stream_fields(control) }
+}
+
+pub fn any_reserved(control: &[u8]) -> bool {
+    unsafe { floealder_any_reserved(control.as_ptr(), control.len()) }
+}
+
+pub fn memory_fields(control: u8) -> MemFields {
+    unsafe { floealder_memory_fields(control) }
 }
 
 pub fn chain_new(depths: &[usize]) -> New<Chain> {

@@ -3,6 +3,7 @@
 mod addressgen;
 mod bench_text;
 mod chain;
+mod fields;
 mod fifo;
 mod memory;
 mod mux;

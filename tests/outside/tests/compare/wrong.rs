@@ -1,6 +1,7 @@
 //! The comparisons can fail: each tells a call apart that is wrong in one thing.
 
 use crate::{addressgen, bench_text, chain, fifo, memory, mux, stream, strobes};
+use outside::models::fifo::Stage;
 use outside::random::{differ, Compared, Random};
 use outside::{linked, models, states};
 
@@ -38,7 +39,7 @@ fn one_protocol_for_the_other() {
 #[test]
 fn a_step_that_does_not_clear() {
     differs(|random| {
-        fifo::compare(random, |fifo, valid, payload, sink, _| {
+        fifo::compare(random, Stage::of, |fifo, valid, payload, sink, _| {
             linked::fifo_step(fifo, valid, payload, sink, false)
         })
     });
@@ -54,7 +55,7 @@ fn a_step_that_does_not_clear() {
 #[test]
 fn a_refused_state_altered() {
     differs(|random| {
-        fifo::compare(random, |fifo, valid, payload, sink, clear| {
+        fifo::compare(random, Stage::of, |fifo, valid, payload, sink, clear| {
             let mut stepped = linked::fifo_step(fifo, valid, payload, sink, clear);
             if stepped.refusal != 0 {
                 stepped.next.slots[15].data ^= 1;
