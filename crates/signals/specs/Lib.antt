@@ -1,4 +1,6 @@
--- The definitions that every crate cites: traces as recorded, refusal numbers, and how a verdict follows from rules.
+-- The definitions that every crate cites: traces as recorded, refusal numbers, and how an answer follows from tables of grounds and rules.
+pub mod Tables
+pub mod Sequences
 pub mod Refusals
 pub mod Payloads
 pub mod Stream

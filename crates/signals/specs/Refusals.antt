@@ -2,6 +2,7 @@
 use Prim.Native.Nat.{ℕ}
 use mathlib.Core.Bool.{Bool, true, false, _||_}
 use mathlib.Core.List.{List, [], _∷_}
+use mathlib.Core.Option.{Option, none, some}
 use Rattle.signals.specs.declared.Refusal.{Refusal}
 use Rattle.signals.specs.declared.Refusal.the-variants.{LengthsDiffer, IllegalBits, TooLong, BadDepth, BadCount, BadState, OutputTooShort, OutOfRange, BadText, BadMask}
 use Rattle.signals.specs.declared.Outcome.{Outcome}
@@ -20,14 +21,14 @@ numberOf OutOfRange = 8
 numberOf BadText = 9
 numberOf BadMask = 10
 
--- the paper's number of an outcome: 0 where nothing is refused
-abbrev pub outcomeNumber : Outcome → ℕ
-outcomeNumber Accepted = 0
-outcomeNumber (Refused why) = numberOf why
+-- the number that an outcome gives, if it is a refusal
+abbrev pub refusalOf : Outcome → Option ℕ
+refusalOf Accepted = none
+refusalOf (Refused why) = some (numberOf why)
 
-abbrev pub accepts : Outcome → Bool
-accepts Accepted = true
-accepts (Refused why) = false
+abbrev pub accepts : (refusal : Option ℕ) → Bool
+accepts none = true
+accepts (some n) = false
 
 -- how many cycles a trace may hold
 abbrev pub maxCycles : ℕ

@@ -5,13 +5,27 @@ pub mod memory;
 pub mod stream;
 
 ghost use mathlib.Core.Path.{_≡_};
-ghost use Rattle.signals.specs.Refusals.{numberOf};
+ghost use Rattle.signals.specs.Payloads.{maxStrb};
+ghost use Rattle.signals.specs.Refusals.{numberOf, maxCycles};
 
 // How many cycles a trace may hold.
 pub const MAX_CYCLES: usize = 65536;
 
 // The largest strobe of a 32-bit word: a bit for each byte.
 pub const MAX_STRB: u8 = 15;
+
+// The two limits as values; each is the definitions' limit.
+pub fn max_cycles() -> usize
+    ensures { λ r. ⌜ r ≡ maxCycles ⌝ }
+{
+    MAX_CYCLES
+}
+
+pub fn max_strb() -> u8
+    ensures { λ r. ⌜ r ≡ maxStrb ⌝ }
+{
+    MAX_STRB
+}
 
 // What a stream carries in one cycle: a word, and a strobe bit for each of its bytes.
 #[repr(C)]
