@@ -4,17 +4,15 @@ use Prim.Native.Nat.{ℕ, zero, suc, _+_, _≤_}
 use native.Mathlib.Numerals.{add-one}
 use mathlib.Core.Bool.{Bool, true, false, cond, not, _&&_}
 use mathlib.Core.Option.{Option, none, some}
-use mathlib.Core.Path.{_≡_, refl, ap}
+use mathlib.Core.Path.{_≡_, refl, _∙_, ap}
 use lib.Dec.{eqb}
-use Rattle.signals.specs.Judging.{firstOf}
-use Rattle.signals.specs.Stream.{Sample, sample, handshake}
+use Rattle.signals.specs.Judging.{countBelow}
+use Rattle.signals.specs.Stream.{Sample, sample}
 use Rattle.signals.proofs.Judging.{count-le}
-use Rattle.stream_checker.specs.declared.Rule.{Rule}
-use Rattle.stream_checker.specs.declared.Rule.the-variants.{Held, Stable, Seq}
 use Rattle.stream_checker.specs.declared.watch.Watch.{Watch}
-use Rattle.stream_checker.specs.Rules.{stalled, breaksHeld, breaksStable, counter, afterCounter, carriesCounter, lastCounter, outOfSeq, breaks, order}
-use Rattle.stream_checker.specs.Verdicts.{handshakes}
-use Rattle.stream_checker.specs.Step.{start, before, breaksAfter, next}
+use Rattle.stream_checker.specs.Rules.{stalled, breaksHeld, breaksStable, between, counter, afterCounter, carriesCounter, lastCounter, outOfSeq, breaksSeq, inOrder, rules}
+use Rattle.stream_checker.specs.Verdicts.{handshakeAt}
+use Rattle.stream_checker.specs.Step.{start, before, breaksSeqAfter, rulesAfter, next}
 
 -- s is the cycle before cycle i; before the first, one that is not stalled
 abbrev Previous : (ℕ → Sample) → ℕ → Sample → Type 0
@@ -29,7 +27,7 @@ Counted (some n) counted due = (counted ≡ true) × (due ≡ afterCounter n)
 pub record Follows (trace : ℕ → Sample) (i : ℕ) (w : Watch) : Type 0 where
   pub previous : Previous trace i (before w)
   pub counters : Counted (lastCounter trace i) (w .counted) (w .due)
-  pub shaken : w .handshakes ≡ handshakes trace i
+  pub shaken : w .handshakes ≡ countBelow (handshakeAt trace) i
 
 counted-next : (b : Bool) (n : ℕ) (last : Option ℕ) (counted : Bool) (due : ℕ) → Counted last counted due → Counted (cond b (some n) last) (cond b true counted) (cond b (afterCounter n) due)
 counted-next true n last counted due h = (refl, refl)
@@ -52,29 +50,25 @@ module _ (trace : ℕ → Sample) where
         shaken = rw (e, f .shaken);
       })
 
-  held-same : (i : ℕ) (w : Watch) → Previous trace i (before w) → breaksHeld (before w) (trace i) ≡ breaks trace i Held
-  held-same zero w h = rw h
-  held-same (suc c) w h = ap (λ (s : Sample). breaksHeld s (trace (suc c))) h
+  between-same :
+      (breaks : (before now : Sample) → Bool) → ((s now : Sample) → stalled s ≡ false → breaks s now ≡ false) →
+      (i : ℕ) (s : Sample) → Previous trace i s → breaks s (trace i) ≡ between breaks trace i
+  between-same breaks free zero s h = free s (trace zero) h
+  between-same breaks free (suc c) s h = ap (λ (t : Sample). breaks t (trace (suc c))) h
 
-  stable-same : (i : ℕ) (w : Watch) → Previous trace i (before w) → breaksStable (before w) (trace i) ≡ breaks trace i Stable
-  stable-same zero w h = rw h
-  stable-same (suc c) w h = ap (λ (s : Sample). breaksStable s (trace (suc c))) h
-
-  seq-same : (i : ℕ) (w : Watch) → Counted (lastCounter trace i) (w .counted) (w .due) → breaksAfter w (trace i) Seq ≡ breaks trace i Seq
-  seq-same zero w h = rw (counted-seq (lastCounter trace zero) (w .counted) (w .due) (counter (trace zero)) h)
-  seq-same (suc c) w h = rw (counted-seq (lastCounter trace (suc c)) (w .counted) (w .due) (counter (trace (suc c))) h)
+  seq-same : (i : ℕ) (w : Watch) → Counted (lastCounter trace i) (w .counted) (w .due) → breaksSeqAfter w (trace i) ≡ breaksSeq trace i
+  seq-same i w h = rw (counted-seq (lastCounter trace i) (w .counted) (w .due) (counter (trace i)) h)
 
   -- the watch breaks the rules that the trace breaks
-  pub breaks-same : (i : ℕ) (w : Watch) → Follows trace i w → (r : Rule) → breaksAfter w (trace i) r ≡ breaks trace i r
-  breaks-same i w f Held = held-same i w (f .previous)
-  breaks-same i w f Stable = stable-same i w (f .previous)
-  breaks-same i w f Seq = seq-same i w (f .counters)
-
-  -- so it finds the same rule first
-  pub breach-same : (i : ℕ) (w : Watch) (seq : Bool) → Follows trace i w → firstOf (order seq) (breaksAfter w (trace i)) ≡ firstOf (order seq) (breaks trace i)
-  breach-same i w true f = rw (breaks-same i w f Held, breaks-same i w f Stable, breaks-same i w f Seq)
-  breach-same i w false f = rw (breaks-same i w f Held, breaks-same i w f Stable)
+  pub rules-same : (i : ℕ) (w : Watch) (seqOn : Bool) → Follows trace i w → rulesAfter w (trace i) seqOn ≡ rules seqOn trace i
+  rules-same i w seqOn f =
+      let held = between-same breaksHeld (λ s now h. rw h) i (before w) (f .previous) in
+      let stable = between-same breaksStable (λ s now h. rw h) i (before w) (f .previous) in
+      let sequence = seq-same i w (f .counters) in
+      ap (λ (b : Bool). inOrder seqOn b (breaksStable (before w) (trace i)) (breaksSeqAfter w (trace i))) held
+      ∙ ap (λ (b : Bool). inOrder seqOn (between breaksHeld trace i) b (breaksSeqAfter w (trace i))) stable
+      ∙ ap (λ (b : Bool). inOrder seqOn (between breaksHeld trace i) (between breaksStable trace i) b) sequence
 
   -- a cycle has at most one handshake
   pub follows-le : (i : ℕ) (w : Watch) → Follows trace i w → w .handshakes ≤ i
-  follows-le i w f = rw (f .shaken) (count-le (λ c. handshake (trace c)) i)
+  follows-le i w f = rw (f .shaken) (count-le (handshakeAt trace) i)

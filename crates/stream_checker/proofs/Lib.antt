@@ -1,4 +1,4 @@
-pub mod Due
+pub mod Counters
 pub mod Follows
 pub mod Judged
 pub mod Meaning

@@ -1,35 +1,36 @@
--- Document 01, "Stream rules": what the answer of `check_stream` means, cycle by cycle.
--- `check-joins` and `check-means` of `proofs/Meaning.antt` prove it for every call. Assumes nothing.
+-- Document 01, "Stream rules": what the answer of `check_stream` means, cycle by cycle, and rule seq by index.
+-- `proofs/Meaning.antt` and `proofs/Counters.antt` have the proofs. Assumes nothing.
 use Prim.Native.Nat.{ℕ, _<_}
-use mathlib.Core.Bool.{Bool}
+use mathlib.Core.Bool.{Bool, true, false}
 use mathlib.Core.List.{List}
 use mathlib.Core.Logic.{_↔_}
 use mathlib.Core.Path.{_≡_}
 use lib.ListN.{length}
-use Rattle.signals.specs.declared.Refusal.{Refusal}
-use Rattle.signals.specs.declared.Outcome.the-variants as outcomes
-use Rattle.signals.specs.Judging.{Keeps, FirstBreach}
 use Rattle.signals.specs.Stream.{Sample, sampleAt}
-use Rattle.stream_checker.specs.declared.Rule.{Rule}
-use Rattle.stream_checker.specs.declared.Verdict.the-variants.{Clean, Broken, Refused}
-use Rattle.stream_checker.specs.declared.Checked.{Checked}
-use Rattle.stream_checker.specs.Rules.{breaks, order}
-use Rattle.stream_checker.specs.Verdicts.{due, handshakes}
+use Rattle.signals.specs.Written.{Meaning}
+use Rattle.stream_checker.specs.Rules.{carriesCounter, counter, afterCounter, breaksSeq, rules}
+use Rattle.stream_checker.specs.Verdicts.{grounds, handshakeAt, checkStream}
 
--- what an answer says of the n cycles of a trace that is not refused
-pub record Means (seq : Bool) (trace : ℕ → Sample) (n : ℕ) (answer : Checked) : Type 0 where
-  -- clean exactly when no cycle breaks a rule
-  pub clean-exactly : (answer .verdict ≡ Clean) ↔ ((c : ℕ) → c < n → Keeps (order seq) (breaks trace c))
-  -- broken exactly at the first cycle that breaks a rule, by the first rule in order that it breaks
-  pub broken-exactly : (r : Rule) (c : ℕ) → (answer .verdict ≡ Broken r c) ↔ FirstBreach (order seq) (breaks trace) n r c
-  -- the handshakes in all cycles, or in those before the broken one
-  pub clean-count : answer .verdict ≡ Clean → answer .handshakes ≡ handshakes trace n
-  pub broken-count : (r : Rule) (c : ℕ) → answer .verdict ≡ Broken r c → answer .handshakes ≡ handshakes trace c
+-- every answer means what it says: by the grounds, by the rules cycle by cycle, and by the handshakes
+abbrev pub EveryAnswer : Type 0
+EveryAnswer =
+    (controls words : List ℕ) (seqOn : Bool) →
+    let trace = sampleAt controls words in
+    Meaning (grounds controls words) (rules seqOn trace) (handshakeAt trace) (length controls) (checkStream controls words seqOn)
 
--- what the answer to any two sequences means
-pub record Meaning (controls words : List ℕ) (seq : Bool) (answer : Checked) : Type 0 where
-  -- refused exactly when that refusal is due, and then the count is 0
-  pub refused-exactly : (why : Refusal) → (answer .verdict ≡ Refused why) ↔ (due controls words ≡ outcomes.Refused why)
-  pub refused-count : (why : Refusal) → answer .verdict ≡ Refused why → answer .handshakes ≡ 0
-  -- otherwise it is of the whole trace
-  pub accepted : due controls words ≡ outcomes.Accepted → Means seq (sampleAt controls words) (length controls) answer
+-- cycle b is the last before cycle c that carries a counter
+pub record LastCarrier (trace : ℕ → Sample) (c b : ℕ) : Type 0 where
+  pub before : b < c
+  pub carries : carriesCounter (trace b) ≡ true
+  pub later : (a : ℕ) → b < a → a < c → carriesCounter (trace a) ≡ false
+
+-- cycle c carries a counter, some cycle before it did, and the counter is not the one after the last of those
+pub record LeavesSequence (trace : ℕ → Sample) (c : ℕ) : Type 0 where
+  pub last : ℕ
+  pub is-last : LastCarrier trace c last
+  pub carries : carriesCounter (trace c) ≡ true
+  pub other : counter (trace c) ≡ afterCounter (counter (trace last)) → ⊥
+
+-- rule seq by index
+abbrev pub SeqByIndex : Type 0
+SeqByIndex = (trace : ℕ → Sample) (c : ℕ) → (breaksSeq trace c ≡ true) ↔ LeavesSequence trace c

@@ -6,8 +6,8 @@ use mathlib.Core.Option.{Option, none, some}
 use lib.Dec.{eqb}
 use Rattle.signals.specs.Payloads.{samePayload}
 use Rattle.signals.specs.Stream.{Sample, handshake}
-use Rattle.stream_checker.specs.declared.Rule.{Rule}
-use Rattle.stream_checker.specs.declared.Rule.the-variants.{Held, Stable, Seq}
+use Rattle.signals.specs.Tables.{Row, _⇐_}
+use Rattle.signals.specs.Written.{RuleName, number, seq}
 
 -- A cycle that lays a duty on the next: valid 1 and ready 0.
 abbrev pub stalled : Sample → Bool
@@ -20,6 +20,11 @@ breaksHeld before now = stalled before && not (now .valid)
 -- Rule 2: if valid is 1 in the next cycle, data and strb equal those before.
 abbrev pub breaksStable : (before now : Sample) → Bool
 breaksStable before now = stalled before && (now .valid && not (samePayload (now .payload) (before .payload)))
+
+-- A rule of two neighbouring cycles, in cycle c of a trace; the first cycle has no predecessor.
+abbrev pub between : ((before now : Sample) → Bool) → (trace : ℕ → Sample) → ℕ → Bool
+between breaks trace zero = false
+between breaks trace (suc c) = breaks (trace c) (trace (suc c))
 
 -- The low 16 bits of data are the counter; after 65,535 comes 0.
 abbrev pub counters : ℕ
@@ -49,14 +54,10 @@ outOfSeq (some before) n = not (eqb n (afterCounter before))
 abbrev pub breaksSeq : (ℕ → Sample) → ℕ → Bool
 breaksSeq trace c = carriesCounter (trace c) && outOfSeq (lastCounter trace c) (counter (trace c))
 
--- whether cycle c of a trace breaks a rule; the first cycle has no predecessor
-abbrev pub breaks : (ℕ → Sample) → ℕ → Rule → Bool
-breaks trace zero Held = false
-breaks trace (suc c) Held = breaksHeld (trace c) (trace (suc c))
-breaks trace zero Stable = false
-breaks trace (suc c) Stable = breaksStable (trace c) (trace (suc c))
-breaks trace c Seq = breaksSeq trace c
+-- The rules of one cycle in their order: 4, 2, and seq when it is switched on, each with whether it is broken.
+abbrev pub inOrder : (seqOn : Bool) → (held stable sequence : Bool) → List (Row RuleName)
+inOrder seqOn held stable sequence = number 4 ⇐ held ∷ number 2 ⇐ stable ∷ cond seqOn (seq ⇐ sequence ∷ []) []
 
--- The order within one cycle: 4, 2, and seq when it is switched on.
-abbrev pub order : (seq : Bool) → List Rule
-order seq = Held ∷ Stable ∷ cond seq (Seq ∷ []) []
+-- the rules in cycle c of a trace
+abbrev pub rules : (seqOn : Bool) → (ℕ → Sample) → ℕ → List (Row RuleName)
+rules seqOn trace c = inOrder seqOn (between breaksHeld trace c) (between breaksStable trace c) (breaksSeq trace c)

@@ -2,17 +2,17 @@
 -- The contracts of private functions cite this; the promise of `check_stream` does not. Assumes nothing.
 use Prim.Native.Nat.{ℕ, _+_}
 use mathlib.Core.Bool.{Bool, true, false, cond, not, _&&_}
-use mathlib.Core.List.{[], _∷_}
+use mathlib.Core.List.{List, [], _∷_}
 use mathlib.Core.Option.{Option, none, some}
 use lib.Dec.{eqb}
 use Rattle.signals.specs.Stream.{Sample, sample, handshake}
-use Rattle.signals.specs.Judging.{firstOf}
-use Rattle.stream_checker.specs.declared.Rule.{Rule}
-use Rattle.stream_checker.specs.declared.Rule.the-variants.{Held, Stable, Seq}
+use Rattle.signals.specs.Tables.{Row, _⇐_}
+use Rattle.signals.specs.Written.{RuleName, seq}
 use Rattle.stream_checker.specs.declared.watch.Breach.{Breach}
 use Rattle.stream_checker.specs.declared.watch.Breach.the-variants.{Nothing, Of}
 use Rattle.stream_checker.specs.declared.watch.Watch.{Watch}
-use Rattle.stream_checker.specs.Rules.{breaksHeld, breaksStable, counter, afterCounter, carriesCounter, order}
+use Rattle.stream_checker.specs.Rules.{breaksHeld, breaksStable, counter, afterCounter, carriesCounter, inOrder}
+use Rattle.stream_checker.specs.Written.{ruleName}
 
 -- nothing is stalled, no counter was carried, and nothing was counted
 abbrev pub start : Watch
@@ -26,24 +26,22 @@ before w = sample (w .control) (w .«data»)
 abbrev pub notDue : Watch → ℕ → Bool
 notDue w n = w .counted && not (eqb n (w .due))
 
--- whether the next cycle breaks a rule
-abbrev pub breaksAfter : Watch → Sample → Rule → Bool
-breaksAfter w now Held = breaksHeld (before w) now
-breaksAfter w now Stable = breaksStable (before w) now
-breaksAfter w now Seq = carriesCounter now && notDue w (counter now)
+-- whether the next cycle breaks rule seq
+abbrev pub breaksSeqAfter : Watch → Sample → Bool
+breaksSeqAfter w now = carriesCounter now && notDue w (counter now)
 
--- a breach, where a rule is broken
-abbrev pub breachBy : Option Rule → Breach
-breachBy none = Nothing
-breachBy (some rule) = Of rule
+-- the rules in the next cycle
+abbrev pub rulesAfter : Watch → Sample → (seqOn : Bool) → List (Row RuleName)
+rulesAfter w now seqOn = inOrder seqOn (breaksHeld (before w) now) (breaksStable (before w) now) (breaksSeqAfter w now)
 
--- the first rule that the next cycle breaks
-abbrev pub breach : Watch → Sample → (seq : Bool) → Breach
-breach w now seq = breachBy (firstOf (order seq) (breaksAfter w now))
+-- rule seq alone, where it is switched on
+abbrev pub seqAfter : Watch → Sample → (seqOn : Bool) → List (Row RuleName)
+seqAfter w now seqOn = cond seqOn (seq ⇐ breaksSeqAfter w now ∷ []) []
 
--- rule seq alone
-abbrev pub seqBreach : Watch → Sample → (seq : Bool) → Breach
-seqBreach w now seq = breachBy (firstOf (cond seq (Seq ∷ []) []) (breaksAfter w now))
+-- the rule that a breach names, if there is one
+abbrev pub ruleIn : Breach → Option RuleName
+ruleIn Nothing = none
+ruleIn (Of rule) = some (ruleName rule)
 
 -- the watch after a cycle
 abbrev pub next : Watch → (control word : ℕ) → Watch

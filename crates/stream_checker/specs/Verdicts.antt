@@ -1,55 +1,32 @@
 -- Document 01, "Stream rules" and "Refusal numbers": the verdict of a trace, and the handshake count beside it. Assumes nothing.
 use Prim.Native.Nat.{ℕ}
-use mathlib.Core.Bool.{Bool, cond, not}
-use mathlib.Core.List.{List}
+use mathlib.Core.Bool.{Bool, not}
+use mathlib.Core.List.{List, [], _∷_}
 use lib.ListN.{length}
 use lib.Dec.{eqb, ltb}
-use Rattle.signals.specs.declared.Refusal.the-variants.{LengthsDiffer, IllegalBits, TooLong}
-use Rattle.signals.specs.declared.Outcome.{Outcome}
-use Rattle.signals.specs.declared.Outcome.the-variants.{Accepted, Refused}
 use Rattle.signals.specs.Refusals.{maxCycles, anyOf}
 use Rattle.signals.specs.Stream.{Sample, sampleAt, handshake, reservedBits}
-use Rattle.signals.specs.Judging.{Finding, clean, broken, findingBelow, cyclesCounted, countBelow}
-use Rattle.stream_checker.specs.declared.Rule.{Rule}
-use Rattle.stream_checker.specs.declared.Verdict.{Verdict}
-use Rattle.stream_checker.specs.declared.Verdict.the-variants as verdicts
-use Rattle.stream_checker.specs.declared.Checked.{Checked}
-use Rattle.stream_checker.specs.Rules.{breaks, order}
+use Rattle.signals.specs.Tables.{Row, _⇐_, firstOf}
+use Rattle.signals.specs.Written.{Judgement, judgement, unlessRefused}
+use Rattle.stream_checker.specs.Rules.{rules}
 
--- which refusal is due, in the order 1, 3, 2
-abbrev pub due : (controls words : List ℕ) → Outcome
-due controls words =
-    cond (not (eqb (length controls) (length words))) (Refused LengthsDiffer)
-    (cond (ltb maxCycles (length controls)) (Refused TooLong)
-    (cond (anyOf reservedBits controls) (Refused IllegalBits)
-    Accepted))
+-- the grounds for refusing a trace, in the order in which they are tried
+abbrev pub grounds : (controls words : List ℕ) → List (Row ℕ)
+grounds controls words =
+    1 ⇐ not (eqb (length controls) (length words))
+    ∷ 3 ⇐ ltb maxCycles (length controls)
+    ∷ 2 ⇐ anyOf reservedBits controls
+    ∷ []
 
--- what the rules find in the first n cycles of a trace
-abbrev pub finding : (seq : Bool) → (ℕ → Sample) → ℕ → Finding Rule
-finding seq trace n = findingBelow (order seq) (breaks trace) n
-
-abbrev pub verdictOf : Finding Rule → Verdict
-verdictOf clean = verdicts.Clean
-verdictOf (broken rule c) = verdicts.Broken rule c
-
--- handshakes in the first n cycles
-abbrev pub handshakes : (ℕ → Sample) → ℕ → ℕ
-handshakes trace n = countBelow (λ c. handshake (trace c)) n
+-- which cycles of a trace are handshakes
+abbrev pub handshakeAt : (ℕ → Sample) → ℕ → Bool
+handshakeAt trace c = handshake (trace c)
 
 -- the verdict on the first n cycles, with the handshakes before the broken cycle, or in all cycles when clean
-abbrev pub judged : (seq : Bool) → (ℕ → Sample) → ℕ → Checked
-judged seq trace n =
-    record {
-      verdict = verdictOf (finding seq trace n);
-      handshakes = handshakes trace (cyclesCounted (finding seq trace n) n);
-    }
-
--- the answer of an accepted call, or of a refused one
-abbrev pub answered : Outcome → Checked → Checked
-answered Accepted checked = checked
-answered (Refused why) checked = record { verdict = verdicts.Refused why; handshakes = 0 }
+abbrev pub judgedBelow : (seqOn : Bool) → (ℕ → Sample) → ℕ → Judgement
+judgedBelow seqOn trace n = judgement (rules seqOn trace) (handshakeAt trace) n
 
 -- what `check_stream` answers to any two sequences
-unfoldable pub checkStream : (controls words : List ℕ) → (seq : Bool) → Checked
-checkStream controls words seq =
-    answered (due controls words) (judged seq (sampleAt controls words) (length controls))
+unfoldable pub checkStream : (controls words : List ℕ) → (seqOn : Bool) → Judgement
+checkStream controls words seqOn =
+    unlessRefused (firstOf (grounds controls words)) (judgedBelow seqOn (sampleAt controls words) (length controls))

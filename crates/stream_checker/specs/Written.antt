@@ -1,16 +1,22 @@
--- Document 01, "Stream rules": its name for each rule, and its verdict for each answer. Assumes nothing.
-use Rattle.signals.specs.Written.{RuleName, number, seq, Written, writtenClean, writtenBroken, writtenRefused}
+-- Document 01's name for each rule of the code, and its answer for each answer of the code. Assumes nothing.
+use Rattle.signals.specs.Judging.{clean, broken}
+use Rattle.signals.specs.Refusals.{numberOf}
+use Rattle.signals.specs.Written.{RuleName, number, seq, Written, judged, refused, Judgement}
 use Rattle.stream_checker.specs.declared.Rule.{Rule}
 use Rattle.stream_checker.specs.declared.Rule.the-variants.{Held, Stable, Seq}
 use Rattle.stream_checker.specs.declared.Verdict.{Verdict}
 use Rattle.stream_checker.specs.declared.Verdict.the-variants.{Clean, Broken, Refused}
+use Rattle.stream_checker.specs.declared.Checked.{Checked}
 
 abbrev pub ruleName : Rule → RuleName
 ruleName Held = number 4
 ruleName Stable = number 2
 ruleName Seq = seq
 
-abbrev pub written : Verdict → Written
-written Clean = writtenClean
-written (Broken rule c) = writtenBroken (ruleName rule) c
-written (Refused why) = writtenRefused why
+abbrev pub verdictWritten : Verdict → Written
+verdictWritten Clean = judged clean
+verdictWritten (Broken rule c) = judged (broken (ruleName rule) c)
+verdictWritten (Refused why) = refused (numberOf why)
+
+abbrev pub written : Checked → Judgement
+written checked = record { verdict = verdictWritten (checked .verdict); handshakes = checked .handshakes }

@@ -6,9 +6,11 @@ mod watch;
 ghost use mathlib.Core.Path.{_≡_};
 ghost use Prim.Native.Nat.{_≤_};
 ghost use lib.ListN.{length};
-ghost use Rattle.signals.specs.Refusals.{maxCycles};
+ghost use Rattle.signals.specs.Refusals.{refusalOf, maxCycles};
 ghost use Rattle.signals.specs.Stream.{sampleAt};
-ghost use Rattle.stream_checker.specs.Verdicts.{due, judged, checkStream};
+ghost use Rattle.signals.specs.Tables.{firstOf};
+ghost use Rattle.stream_checker.specs.Verdicts.{grounds, judgedBelow, checkStream};
+ghost use Rattle.stream_checker.specs.Written.{written};
 use signals::MAX_CYCLES;
 use signals::Outcome;
 use signals::Refusal;
@@ -38,9 +40,9 @@ pub struct Checked {
     pub handshakes: u32,
 }
 
-// Which refusal is due, in the order 1, 3, 2.
+// The refusals 1, 3 and 2, in this order.
 fn refusal(control: &[u8], data: &[u32]) -> Outcome
-    ensures { λ r. ⌜ r ≡ due (now (control .entry)) (now («data» .entry)) ⌝ }
+    ensures { λ r. ⌜ refusalOf r ≡ firstOf (grounds (now (control .entry)) (now («data» .entry))) ⌝ }
 {
     if control.len() != data.len() {
         return Outcome::Refused(Refusal::LengthsDiffer);
@@ -57,7 +59,7 @@ fn refusal(control: &[u8], data: &[u32]) -> Outcome
 // The verdict on a trace that is not refused: up to the first breach, or to the end.
 fn judge_cycles(control: &[u8], data: &[u32], seq: bool) -> Checked
     requires { ⌜ (length (now control) ≡ length (now «data»)) × (length (now control) ≤ maxCycles) ⌝ }
-    ensures { λ r. ⌜ r ≡ judged seq (sampleAt (now (control .entry)) (now («data» .entry))) (length (now (control .entry))) ⌝ }
+    ensures { λ r. ⌜ written r ≡ judgedBelow seq (sampleAt (now (control .entry)) (now («data» .entry))) (length (now (control .entry))) ⌝ }
 {
     let mut watch = Watch::start();
     let mut i = 0;
@@ -81,7 +83,7 @@ fn judge_cycles(control: &[u8], data: &[u32], seq: bool) -> Checked
 
 // The verdict on a stream's trace, for any two sequences; `seq` switches rule seq on.
 pub fn check_stream(control: &[u8], data: &[u32], seq: bool) -> Checked
-    ensures { λ r. ⌜ r ≡ checkStream (now (control .entry)) (now («data» .entry)) seq ⌝ }
+    ensures { λ r. ⌜ written r ≡ checkStream (now (control .entry)) (now («data» .entry)) seq ⌝ }
 {
     match refusal(control, data) {
         Outcome::Accepted => judge_cycles(control, data, seq),

@@ -4,7 +4,8 @@ ghost use Prim.Native.Nat.{_+_, _<_, _^_};
 ghost use Rattle.signals.specs.Payloads.{samePayload};
 ghost use Rattle.signals.specs.Stream.{sample, handshake};
 ghost use Rattle.stream_checker.specs.Rules.{stalled, carriesCounter, counter, afterCounter};
-ghost use Rattle.stream_checker.specs.Step.{before, start, breaksAfter, breach, seqBreach, next};
+ghost use Rattle.signals.specs.Tables.{firstOf};
+ghost use Rattle.stream_checker.specs.Step.{before, start, breaksSeqAfter, rulesAfter, seqAfter, ruleIn, next};
 use crate::Rule;
 use signals::stream::ready;
 use signals::stream::strb;
@@ -82,14 +83,14 @@ impl Watch {
 
     // Whether a cycle breaks rule seq.
     fn breaks_seq(self, control: u8, data: u32) -> bool
-        ensures { λ r. ⌜ r ≡ breaksAfter self (sample control «data») Rule.Seq ⌝ }
+        ensures { λ r. ⌜ r ≡ breaksSeqAfter self (sample control «data») ⌝ }
     {
         carries_counter(control) & (self.counted & (data % COUNTERS != self.due))
     }
 
     // Rule seq alone, where it is switched on.
     fn seq_breach(self, control: u8, data: u32, seq: bool) -> Breach
-        ensures { λ r. ⌜ r ≡ seqBreach self (sample control «data») seq ⌝ }
+        ensures { λ r. ⌜ ruleIn r ≡ firstOf (seqAfter self (sample control «data») seq) ⌝ }
     {
         if seq {
             if self.breaks_seq(control, data) {
@@ -104,7 +105,7 @@ impl Watch {
 
     // The first rule in order that the next cycle breaks.
     pub(crate) fn breach(self, control: u8, data: u32, seq: bool) -> Breach
-        ensures { λ r. ⌜ r ≡ breach self (sample control «data») seq ⌝ }
+        ensures { λ r. ⌜ ruleIn r ≡ firstOf (rulesAfter self (sample control «data») seq) ⌝ }
     {
         if stalled(self.control) {
             let held = valid(control);

@@ -1,13 +1,14 @@
 -- `judge_cycles` meets its contract. The invariant: nothing is found in the cycles below `i`, and the watch follows the trace.
 -- The measure is what is left of the trace. Assumes nothing.
-use mathlib.Core.Path.{_≡_, refl, sym, _∙_}
+use mathlib.Core.Path.{_≡_, refl, sym, _∙_, ap}
 use Prim.Native.Nat.{_≤_, _-_}
 use borrow.Author.Needs.{needs}
 use native.Mathlib.Omega.{arith}
 use lib.ListN.{length}
-use Rattle.signals.specs.Judging.{clean}
+use Rattle.signals.specs.Judging.{clean, findingBelow}
 use Rattle.signals.specs.Stream.{sampleAt}
-use Rattle.stream_checker.specs.Verdicts.{finding}
+use Rattle.stream_checker.specs.Rules.{rules}
+use Rattle.stream_checker.specs.Step.{ruleIn}
 use Rattle.stream_checker.proofs.Follows.{Follows, follows-start, follows-next, follows-le}
 use Rattle.stream_checker.proofs.Judged.{judged-stops, judged-goes, judged-ends}
 use Rattle.stream_checker.proofs.judge_cycles.Statement.{statement}
@@ -15,7 +16,7 @@ use Rattle.stream_checker.proofs.judge_cycles.Tie as tie
 
 abbrev Inv-loop : tie.InvT-loop
 Inv-loop control «data» seq watch₀ i₀ watch i =
-    (i ≤ length control) × (finding seq (sampleAt control «data») i ≡ clean) × Follows (sampleAt control «data») i watch
+    (i ≤ length control) × (findingBelow (rules seq (sampleAt control «data»)) i ≡ clean) × Follows (sampleAt control «data») i watch
 
 abbrev μ-loop : tie.MeasureT-loop
 μ-loop control «data» seq watch₀ i₀ watch i = length control - i
@@ -49,7 +50,7 @@ returns c =
     let a = c .before .before .before .before .before .before .before .before .before .before .before .args in
     let l = c .before .before .before .before .before .before .before .loop in
     judged-stops (a .seq) _ (l .i) (l .watch) (l .inv .1) (l .inv .2) (length (a .control .now)) _ (omega arith)
-    (sym (c .before .before .before .breach .ensures) ∙ c .before .rule .given .1)
+    (ap ruleIn (sym (c .before .rule .given .1)) ∙ c .before .before .before .breach .ensures)
 
 enum-told : tie.Need-enum-told Inv-loop μ-loop
 enum-told c = search needs
@@ -70,7 +71,7 @@ loop-again c =
     let a = c .before .before .before .before .before .before .before .before .before .before .before .args in
     let l = c .before .before .before .before .before .before .before .loop in (
       omega arith,
-      judged-goes (a .seq) _ (l .i) (l .watch) (l .inv .1) (l .inv .2) (sym (c .before .before .before .breach .ensures) ∙ c .before .enum-told .given .1),
+      judged-goes (a .seq) _ (l .i) (l .watch) (l .inv .1) (l .inv .2) (ap ruleIn (sym (c .before .enum-told .given .1)) ∙ c .before .before .before .breach .ensures),
       rw (c .next .ensures) (follows-next _ (l .i) (l .watch) _ _ refl (l .inv .2)),
     )
 
