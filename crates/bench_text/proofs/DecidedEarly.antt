@@ -4,26 +4,19 @@ use mathlib.Core.Path.{_≡_, refl, ap, _∙_}
 use mathlib.Core.Bool.{Bool, true, false}
 use mathlib.Core.List.{List, [], _∷_, _++_, append-assoc}
 use mathlib.Core.Logic.{⊎-elim}
-use Prim.Native.Nat.{ℕ, _+_, _-_, _*_, _/_, _%_, _<_, _≤_}
+use Prim.Native.Nat.{ℕ, _+_, _-_, _*_, _<_, _≤_}
 use native.Mathlib.Omega.{arith}
 use borrow.Author.Tests.{leb-true, leb-false}
 use lib.ListN.{length, take, drop, length-append, take-append-drop}
 use lib.Seq.{take-all, take-append-add, length-take-le}
 use lib.Dec.{leb}
-use Rattle.signals.proofs.Bools.{either}
-use Rattle.bench_text.specs.Digits.{digitByte, decimal}
+use Rattle.signals.proofs.Bools.{either, clash}
+use Rattle.bench_text.specs.Digits.{decimal}
 use Rattle.bench_text.specs.Form.{maxAnnounced, maxText, Entry, Header, Trace, Reading, reading, switchLine, entryLines, headerLines, textOf}
 use Rattle.bench_text.specs.Report.{reportOn, reportOf}
 use Rattle.bench_text.specs.RoundTrip.{OfForm, TooMany, DecidedEarly}
 use Rattle.bench_text.proofs.RoundTrip.{View, read, many, bad, view, many-reads}
-use Rattle.bench_text.proofs.Writing.{without-le, decimal-short}
-
--- a number below 10,000 has at most four digits
-decimal-four : (n : ℕ) → n < 10000 → length (decimal n) ≤ 4
-unfolding decimal
-decimal-four n h =
-    let e : n / 10 / 10 / 10 / 10 % 10 ≡ 0 = omega arith in
-    rw e (without-le (digitByte (n / 10 / 10 / 10 % 10) ∷ digitByte (n / 10 / 10 % 10) ∷ digitByte (n / 10 % 10) ∷ digitByte (n % 10) ∷ []))
+use Rattle.bench_text.proofs.Writing.{decimal-short, decimal-four}
 
 switch-length : (seq : Bool) → length (switchLine seq) ≤ 8
 switch-length true = omega arith
@@ -82,11 +75,11 @@ agree text h (many m) bad e i =
     let whole : take maxText text ++ drop maxText text ≡ text = take-append-drop maxText text in
     let n : TooMany text = rw whole at (many-extends (take maxText text) (drop maxText text) m) in
     let p = many-reads text n in
-    let z : _≡_ {A = ℕ} 0 1 = cc in absurd (omega arith)
+    absurd (clash cc)
 agree text h bad (read t f) e i = absurd (not-long f (omega arith))
 agree text h bad (many n) e i =
     let p = many-reads (take maxText text) (many-shrinks text n) in
-    let z : _≡_ {A = ℕ} 0 1 = cc in absurd (omega arith)
+    absurd (clash cc)
 agree text h bad bad e i = refl
 
 pub decided-early : DecidedEarly

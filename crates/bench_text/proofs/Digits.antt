@@ -9,7 +9,7 @@ use native.Mathlib.Nat.{pow-succ', mul-assoc, mul-le-mul-right, le-mul-of-pos-ri
 use native.Mathlib.Omega.{arith}
 use borrow.Author.Tests.{leb-true}
 use lib.Dec.{leb}
-use Rattle.signals.proofs.Bools.{either, both}
+use Rattle.signals.proofs.Bools.{either, both, clash}
 use Rattle.bench_text.specs.Digits.{digitOf}
 
 -- a digit is below ten, or a letter of base sixteen
@@ -35,7 +35,7 @@ digit-small base b d e = ⊎-elim figure (λ f. ⊎-elim (letter f) (neither f) 
     neither : leb 48 b && leb b 57 ≡ false → leb 16 base && (leb 97 b && leb b 102) ≡ false → (d < 10) ⊎ ((16 ≤ base) × (d < 16))
     neither f g =
         let s : _≡_ {A = Option ℕ} none (some d) = rw (f, g) at e in
-        let z : _≡_ {A = ℕ} 0 1 = cc in absurd (omega arith)
+        absurd (clash cc)
 
 pub decimal-digit : (b d : ℕ) → digitOf 10 b ≡ some d → d < 10
 decimal-digit b d e = ⊎-elim (λ h. h) (λ h. omega arith) (digit-small 10 b d e)

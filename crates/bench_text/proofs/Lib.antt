@@ -4,6 +4,7 @@ pub mod Lines
 pub mod Literal
 pub mod Numbers
 pub mod NumbersFit
+pub mod Reading
 pub mod Reporting
 pub mod RoundTrip
 pub mod Spelling

@@ -9,17 +9,16 @@ use native.Mathlib.Numerals.{add-one}
 use native.Mathlib.Omega.{arith}
 use lib.ListN.{length, drop, take, set, drop-of-length-le}
 use lib.Seq.{take-suc-set, drop-cons}
-use Rattle.signals.specs.declared.Refusal.the-variants.{BadText}
-use Rattle.bench_text.specs.Form.{Entry, Reading, trace, refused, cycleLine, cycleLines, withEntry, traceOf}
-use Rattle.bench_text.specs.Places.{goesOn}
+use Rattle.bench_text.specs.Form.{Entry, Reading, trace, refused, cycleLine, cycleLines, withEntry}
+use Rattle.bench_text.specs.Places.{goesOn, linesRead}
 
 -- the trace of entries that follow those already read
 abbrev pub traceAfter : (seq : Bool) → (controls words : List ℕ) → Option (List Entry) → Reading
-traceAfter seq controls words none = refused BadText
+traceAfter seq controls words none = refused 9
 traceAfter seq controls words (some es) =
     trace (record { seq = seq; controls = controls ++ map (λ e. e .control) es; words = words ++ map (λ e. e .word) es })
 
-pub lines-start : (seq : Bool) (lines : Option (List Entry)) → traceOf seq lines ≡ traceAfter seq [] [] lines
+pub lines-start : (seq : Bool) (lines : Option (List Entry)) → linesRead seq lines ≡ traceAfter seq [] [] lines
 lines-start seq none = refl
 lines-start seq (some es) = refl
 
@@ -35,7 +34,7 @@ module _ (text : List ℕ) (seq : Bool) (cycles i at : ℕ) (control words : Lis
   one-more : i < cycles → cycles - i ≡ suc (cycles - (i + 1))
   one-more h = omega arith
 
-  pub lines-stop : i < cycles → cycleLine (drop at text) ≡ none → whole ≡ refused BadText
+  pub lines-stop : i < cycles → cycleLine (drop at text) ≡ none → whole ≡ refused 9
   lines-stop h e = rw (one-more h, e) at so-far
 
   pub lines-go-on : (byte word next : ℕ) → i < cycles → i < length control → i < length words
@@ -55,5 +54,5 @@ module _ (text : List ℕ) (seq : Bool) (cycles i at : ℕ) (control words : Lis
       let e = rw (none-left k, drop-of-length-le text t, append-nil (take i control), append-nil (take i words)) at so-far in
       rw (← all) e
 
-  pub lines-surplus : cycles ≤ i → at < length text → whole ≡ refused BadText
+  pub lines-surplus : cycles ≤ i → at < length text → whole ≡ refused 9
   lines-surplus k t = rw (none-left k, drop-cons text at 0 t) at so-far

@@ -1,49 +1,86 @@
--- The numbers of a report are at most 4,096, so that five digits spell each of them: a verdict's cycle lies in the trace, and
--- there are no more handshakes than cycles. Assumes nothing.
+-- A report has at most 72 bytes: a verdict's cycle lies in the trace and there are no more handshakes than cycles, so each number
+-- of a trace's report has at most four digits, and its rule is 4, 2 or seq. Assumes nothing.
 use mathlib.Core.Path.{_≡_, refl, ap, _∙_}
-use mathlib.Core.Bool.{Bool}
+use mathlib.Core.Bool.{Bool, true, false}
 use mathlib.Core.List.{List}
+use mathlib.Core.Option.{Option, none, some}
 use Prim.Native.Nat.{ℕ, _<_, _≤_}
-use native.Mathlib.Nat.{le-trans}
 use native.Mathlib.Omega.{arith}
-use lib.ListN.{length, length-map}
-use Rattle.signals.specs.declared.Outcome.{Outcome}
-use Rattle.signals.specs.declared.Outcome.the-variants.{Accepted, Refused}
-use Rattle.signals.specs.Judging.{Finding, clean, broken, cyclesCounted}
-use Rattle.signals.specs.Stream.{sampleAt, handshake}
+use lib.ListN.{length, length-map, length-append}
+use Rattle.signals.specs.Tables.{firstOf}
+use Rattle.signals.specs.Judging.{Finding, clean, broken, countBelow, findingBelow, cyclesCounted}
+use Rattle.signals.specs.Stream.{sampleAt}
+use Rattle.signals.specs.Written.{RuleName, number, seq, judged, refused, unlessRefused}
+use Rattle.signals.proofs.Bools.{clash}
+use Rattle.signals.proofs.Tables.{first-some}
 use Rattle.signals.proofs.Judging.{judges, count-le}
-use Rattle.stream_checker.specs.declared.Rule.{Rule}
-use Rattle.stream_checker.specs.declared.Checked.{Checked}
-use Rattle.stream_checker.specs.Rules.{breaks, order}
-use Rattle.stream_checker.specs.Verdicts.{due, finding, verdictOf, handshakes, judged, answered, checkStream}
-use Rattle.stream_checker.specs.Written.{written}
-use Rattle.bench_text.specs.Form.{maxAnnounced, Trace, trace, reading}
+use Rattle.stream_checker.specs.Rules.{between, breaksHeld, breaksStable, breaksSeq, inOrder, rules}
+use Rattle.stream_checker.specs.Verdicts.{grounds, handshakeAt, judgedBelow, checkStream}
+use Rattle.bench_text.specs.Digits.{decimal}
+use Rattle.bench_text.specs.Form as form
+use Rattle.bench_text.specs.Form.{maxAnnounced, Trace, Reading, reading}
+use Rattle.bench_text.specs.Report.{maxReport, ruleBytes, verdictLines, lines, reportOn, reportOf}
+use Rattle.bench_text.specs.RoundTrip.{ReportsFit}
 use Rattle.bench_text.proofs.RoundTrip.{means}
+use Rattle.bench_text.proofs.Writing.{decimal-short, decimal-four, decimal-zero}
 
-pub record NumbersFit (n : ℕ) (checked : Checked) : Type 0 where
-  pub at : written (checked .verdict) .cycle ≤ n
-  pub handshakes : checked .handshakes ≤ n
+-- a rule of the stream's is written in at most three bytes
+rule-short : (seqOn held stable sequence : Bool) (r : RuleName) → firstOf (inOrder seqOn held stable sequence) ≡ some r → length (ruleBytes r) ≤ 3
+unfolding decimal
+rule-short seqOn true stable sequence r e = let q : number 4 ≡ r = cc in rw (← q) (omega arith)
+rule-short seqOn false true sequence r e = let q : number 2 ≡ r = cc in rw (← q) (omega arith)
+rule-short true false false true r e = let q : seq ≡ r = cc in rw (← q) (omega arith)
+rule-short true false false false r e = absurd (clash cc)
+rule-short false false false sequence r e = absurd (clash cc)
 
-checked-fits : (controls words : List ℕ) (seq : Bool) → NumbersFit (length controls) (checkStream controls words seq)
-unfolding checkStream
-checked-fits controls words seq = of (due controls words)
+refused-short : (cycles why : ℕ) → length (verdictLines cycles 0 (refused why)) ≤ maxReport
+refused-short cycles why =
+    let none = decimal-zero in
+    let rule = decimal-short why in
+    simp length-append (omega arith)
+
+module _ (controls words : List ℕ) (seqOn : Bool) (few : length controls ≤ maxAnnounced) where
+  abbrev n : ℕ
+  n = length controls
+
+  judged-short :
+      (f : Finding RuleName) → findingBelow (rules seqOn (sampleAt controls words)) n ≡ f →
+      length (verdictLines n (countBelow (handshakeAt (sampleAt controls words)) (cyclesCounted f n)) (judged f)) ≤ maxReport
+  judged-short clean e =
+      let count = count-le (handshakeAt (sampleAt controls words)) n in
+      let shaken = decimal-four (countBelow (handshakeAt (sampleAt controls words)) n) (omega arith) in
+      let cycles = decimal-four n (omega arith) in
+      let at = decimal-zero in
+      simp length-append (omega arith)
+  judged-short (broken r c) e =
+      let trace = sampleAt controls words in
+      let breach = judges (rules seqOn trace) n .broken-exactly r c .0 e in
+      let inside : c < n = breach .inside in
+      let count = count-le (handshakeAt trace) c in
+      let shaken = decimal-four (countBelow (handshakeAt trace) c) (omega arith) in
+      let cycles = decimal-four n (omega arith) in
+      let at = decimal-four c (omega arith) in
+      let rule =
+          rule-short seqOn (between breaksHeld trace c) (between breaksStable trace c) (breaksSeq trace c) r
+          (first-some (rules seqOn trace c) r (breach .rule)) in
+      simp length-append (omega arith)
+
+  checked-short : length (lines n (checkStream controls words seqOn)) ≤ maxReport
+  unfolding checkStream
+  checked-short = of (firstOf (grounds controls words))
+    where
+      of : (refusal : Option ℕ) → length (lines n (unlessRefused refusal (judgedBelow seqOn (sampleAt controls words) n))) ≤ maxReport
+      of none = judged-short (findingBelow (rules seqOn (sampleAt controls words)) n) refl
+      of (some why) = refused-short n why
+
+pub reports-fit : ReportsFit
+unfolding reportOf
+reports-fit text = of (reading text) refl
   where
-    judged-fits : (f : Finding Rule) → finding seq (sampleAt controls words) (length controls) ≡ f
-        → NumbersFit (length controls) (record { verdict = verdictOf f; handshakes = handshakes (sampleAt controls words) (cyclesCounted f (length controls)) })
-    judged-fits clean e = record { at = omega arith; handshakes = count-le (λ c. handshake (sampleAt controls words c)) (length controls) }
-    judged-fits (broken rule c) e =
-        let h : c < length controls = judges (order seq) (breaks (sampleAt controls words)) (length controls) .broken-exactly rule c .0 e .inside in
-        record { at = omega arith; handshakes = le-trans (count-le (λ b. handshake (sampleAt controls words b)) c) (omega arith) }
-
-    of : (o : Outcome) → NumbersFit (length controls) (answered o (judged seq (sampleAt controls words) (length controls)))
-    of Accepted = judged-fits (finding seq (sampleAt controls words) (length controls)) refl
-    of (Refused why) = record { at = omega arith; handshakes = omega arith }
-
--- of a text that is read
-pub numbers-fit : (text : List ℕ) (t : Trace) → reading text ≡ trace t → (length (t .controls) ≤ maxAnnounced) × NumbersFit maxAnnounced (checkStream (t .controls) (t .words) (t .seq))
-numbers-fit text t e =
-    let f = means text .trace-exactly t .0 e in
-    let long : length (t .controls) ≡ length (f .entries) = ap (λ (s : Trace). length (s .controls)) (f .trace-is) ∙ length-map (f .entries) (λ e. e .control) in
-    let few : length (t .controls) ≤ maxAnnounced = (let h = f .few in omega arith) in
-    let n = checked-fits (t .controls) (t .words) (t .seq) in
-    (few, record { at = le-trans (n .at) few; handshakes = le-trans (n .handshakes) few })
+    of : (read : Reading) → reading text ≡ read → length (reportOn read) ≤ maxReport
+    of (form.refused why) e = refused-short 0 why
+    of (form.trace t) e =
+        let f = means text .trace-exactly t .0 e in
+        let long : length (t .controls) ≡ length (f .entries) = ap (λ (s : Trace). length (s .controls)) (f .trace-is) ∙ length-map (f .entries) (λ e. e .control) in
+        let within : length (t .controls) ≤ maxAnnounced = (let h = f .few in omega arith) in
+        checked-short (t .controls) (t .words) (t .seq) within

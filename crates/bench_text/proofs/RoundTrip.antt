@@ -9,31 +9,32 @@ use native.Mathlib.Omega.{arith}
 use borrow.Author.Tests.{ltb-true, ltb-false, lt-ltb, le-ltb}
 use lib.ListN.{length}
 use lib.Dec.{ltb}
-use Rattle.signals.specs.declared.Refusal.the-variants.{TooLong, BadText}
-use Rattle.bench_text.specs.Form.{maxAnnounced, Front, Entry, Header, Trace, Reading, trace, refused, header, cycleLines, traceOf, afterHeader, reading, entryLines, headerLines}
-use Rattle.bench_text.specs.RoundTrip.{traceFrom, OfForm, TooMany, ReadsBack, Means}
+use Rattle.signals.proofs.Bools.{clash}
+use Rattle.bench_text.specs.Form.{maxAnnounced, Front, Entry, Header, Trace, Reading, trace, refused, header, cycleLines, traceFrom, reading, entryLines, headerLines, textOf}
+use Rattle.bench_text.specs.Places.{linesRead}
+use Rattle.bench_text.specs.RoundTrip.{OfForm, TooMany, ReadsBack, Means}
+use Rattle.bench_text.proofs.Reading.{afterHeader, reading-is}
 use Rattle.bench_text.proofs.Texts.{header-back, header-read, cycles-back, cycles-read}
 
 pub reads-back : ReadsBack
-unfolding reading
 reads-back seq es few hold =
-    rw (header-back (record { seq = seq; cycles = length es }) (entryLines es) (omega arith), le-ltb maxAnnounced (length es) few, cycles-back es hold)
+    reading-is (textOf seq es)
+    ∙ rw (header-back (record { seq = seq; cycles = length es }) (entryLines es) (omega arith), le-ltb maxAnnounced (length es) few, cycles-back es hold)
 
 form-reads : (text : List ℕ) (t : Trace) → OfForm text t → reading text ≡ trace t
 form-reads text t f = rw (f .text-is, f .trace-is) (reads-back (f .seq) (f .entries) (f .few) (f .hold))
 
-pub many-reads : (text : List ℕ) → TooMany text → reading text ≡ refused TooLong
-unfolding reading
-many-reads text m = rw (m .text-is, header-back (m .header) (m .rest) (m .digits), lt-ltb maxAnnounced (m .header .cycles) (m .many))
+pub many-reads : (text : List ℕ) → TooMany text → reading text ≡ refused 3
+many-reads text m = reading-is text ∙ rw (m .text-is, header-back (m .header) (m .rest) (m .digits), lt-ltb maxAnnounced (m .header .cycles) (m .many))
 
 -- a text, by what is read from it
 pub data View (text : List ℕ) : Reading → Type 0 where
   read : (t : Trace) → OfForm text t → View text (trace t)
-  many : TooMany text → View text (refused TooLong)
-  bad : View text (refused BadText)
+  many : TooMany text → View text (refused 3)
+  bad : View text (refused 9)
 
 view-lines : (text : List ℕ) (front : Front Header) → header text ≡ some front → front .item .cycles ≤ maxAnnounced
-    → (o : Option (List Entry)) → cycleLines (front .item .cycles) (front .rest) ≡ o → View text (traceOf (front .item .seq) o)
+    → (o : Option (List Entry)) → cycleLines (front .item .cycles) (front .rest) ≡ o → View text (linesRead (front .item .seq) o)
 view-lines text front e few none i = bad
 view-lines text front e few (some es) i =
     let h = header-read text front e in
@@ -52,7 +53,7 @@ view-lines text front e few (some es) i =
     })
 
 view-limit : (text : List ℕ) (front : Front Header) → header text ≡ some front → (b : Bool) → ltb maxAnnounced (front .item .cycles) ≡ b
-    → View text (cond b (refused TooLong) (traceOf (front .item .seq) (cycleLines (front .item .cycles) (front .rest))))
+    → View text (cond b (refused 3) (linesRead (front .item .seq) (cycleLines (front .item .cycles) (front .rest))))
 view-limit text front e true l =
     let h = header-read text front e in
     many (record { header = front .item; rest = front .rest; many = ltb-true maxAnnounced (front .item .cycles) l; digits = h .below; text-is = h .text-is })
@@ -64,8 +65,7 @@ view-header text none e = bad
 view-header text (some front) e = view-limit text front e (ltb maxAnnounced (front .item .cycles)) refl
 
 pub view : (text : List ℕ) → View text (reading text)
-unfolding reading
-view text = view-header text (header text) refl
+view text = rw (reading-is text) (view-header text (header text) refl)
 
 pub means : (text : List ℕ) → Means text
 means text =
@@ -75,23 +75,23 @@ means text =
       nine-exactly = (λ e. (λ t f. two (form-reads text t f) e, λ m. both-refused (many-reads text m) e), λ w. of-nine (view text) (w .0) (w .1));
     }
   where
-    two : {t : Trace} → reading text ≡ trace t → reading text ≡ refused BadText → ⊥
-    two {t} p q = let z : _≡_ {A = ℕ} 0 1 = cc in omega arith
+    two : {t : Trace} → reading text ≡ trace t → reading text ≡ refused 9 → ⊥
+    two {t} p q = clash cc
 
-    both-refused : reading text ≡ refused TooLong → reading text ≡ refused BadText → ⊥
-    both-refused p q = let z : _≡_ {A = ℕ} 0 1 = cc in omega arith
+    both-refused : reading text ≡ refused 3 → reading text ≡ refused 9 → ⊥
+    both-refused p q = clash cc
 
     of-trace : {r : Reading} → View text r → (t : Trace) → r ≡ trace t → OfForm text t
     of-trace (read s f) t e = let q : s ≡ t = cc in rw (← q) f
-    of-trace (many m) t e = let z : _≡_ {A = ℕ} 0 1 = cc in absurd (omega arith)
-    of-trace bad t e = let z : _≡_ {A = ℕ} 0 1 = cc in absurd (omega arith)
+    of-trace (many m) t e = absurd (clash cc)
+    of-trace bad t e = absurd (clash cc)
 
-    of-three : {r : Reading} → View text r → r ≡ refused TooLong → TooMany text
-    of-three (read s f) e = let z : _≡_ {A = ℕ} 0 1 = cc in absurd (omega arith)
+    of-three : {r : Reading} → View text r → r ≡ refused 3 → TooMany text
+    of-three (read s f) e = absurd (clash cc)
     of-three (many m) e = m
-    of-three bad e = let z : _≡_ {A = ℕ} 0 1 = cc in absurd (omega arith)
+    of-three bad e = absurd (clash cc)
 
-    of-nine : {r : Reading} → View text r → ((t : Trace) → OfForm text t → ⊥) → (TooMany text → ⊥) → r ≡ refused BadText
+    of-nine : {r : Reading} → View text r → ((t : Trace) → OfForm text t → ⊥) → (TooMany text → ⊥) → r ≡ refused 9
     of-nine (read s f) no-form few = absurd (no-form s f)
     of-nine (many m) no-form few = absurd (few m)
     of-nine bad no-form few = refl

@@ -12,7 +12,7 @@ use borrow.Author.Tests.{leb-true, ltb-true, ltb-false, le-leb, lt-leb, lt-ltb, 
 use lib.ListN.{length, length-append}
 use lib.Seq.{append-snoc}
 use lib.Dec.{leb, ltb, eqb, eqb·suc-zero}
-use Rattle.signals.proofs.Bools.{either, both}
+use Rattle.signals.proofs.Bools.{either, both, clash}
 use Rattle.bench_text.specs.Digits.{digitByte, digitOf, fixed, numberFrom, withoutZeros, decimal}
 use Rattle.bench_text.specs.Form.{Front, digits, orEnd, legalNumber, number, hexFrom, atFront, then}
 use Rattle.bench_text.proofs.Digits.{decimal-digit, hex-digit, room-step}
@@ -57,7 +57,7 @@ digit-byte base b d e = ⊎-elim figure (λ f. ⊎-elim (letter f) (neither f) (
     neither : leb 48 b && leb b 57 ≡ false → leb 16 base && (leb 97 b && leb b 102) ≡ false → b ≡ digitByte d
     neither f g =
         let s : _≡_ {A = Option ℕ} none (some d) = rw (f, g) at e in
-        let z : _≡_ {A = ℕ} 0 1 = cc in absurd (omega arith)
+        absurd (clash cc)
 
 -- digits that are all below a base
 abbrev pub Under : ℕ → List ℕ → Type 0
@@ -241,7 +241,7 @@ number-read text front e = ⊎-elim legal (λ f. absurd (illegal f)) (either (le
     illegal : legalNumber (digits text .item) ≡ false → ⊥
     illegal f =
         let s : none ≡ some front = rw f at e in
-        let z : _≡_ {A = ℕ} 0 1 = cc in omega arith
+        clash cc
 
 -- hex digits, both ways
 
@@ -266,12 +266,12 @@ pub hex-read : (k n : ℕ) (text : List ℕ) (front : Front ℕ) → hexFrom n k
 hex-read zero n text front e =
     let q : record { item = n; rest = text } ≡ front = cc in
     rw (← q) (record { spelling = []; under = tt; long = refl; value = refl; text-is = refl })
-hex-read (suc k) n [] front e = let z : _≡_ {A = ℕ} 0 1 = cc in absurd (omega arith)
+hex-read (suc k) n [] front e = absurd (clash cc)
 hex-read (suc k) n (b ∷ text) front e = of (digitOf 16 b) refl e (λ d. hex-read k (n * 16 + d) text front)
   where
     of : (o : Option ℕ) → digitOf 16 b ≡ o → then (atFront o text) (λ d rest. hexFrom (n * 16 + d) k rest) ≡ some front
         → ((d : ℕ) → hexFrom (n * 16 + d) k text ≡ some front → HexRead k (n * 16 + d) text front) → HexRead (suc k) n (b ∷ text) front
-    of none i q more = let z : _≡_ {A = ℕ} 0 1 = cc in absurd (omega arith)
+    of none i q more = absurd (clash cc)
     of (some d) i q more =
         let r = more d q in
         record {

@@ -9,6 +9,7 @@ use borrow.Author.Tests.{eqb-true, eq-eqb}
 use lib.ListN.{length}
 use lib.Seq.{append-snoc}
 use lib.Dec.{eqb}
+use Rattle.signals.proofs.Bools.{clash}
 use Rattle.bench_text.specs.Digits.{bytes, fixed, decimal}
 use Rattle.bench_text.specs.Form.{Front, then, orElse, literal, switch, switchLine, number, announced, hexFrom, Entry, cycleLine, entryLine, entryLines, cycleLines, withEntry, Header, header, headerLines}
 use Rattle.bench_text.specs.RoundTrip.{Holds, AllHold}
@@ -18,7 +19,7 @@ use Rattle.bench_text.proofs.Spelling.{number-back, number-read, hex-fi
 module _ {A B C : Type 0} where
   then-read : (o : Option (Front A)) (go : A → List ℕ → Option B) (b : B) → then o go ≡ some b
       → ((front : Front A) → o ≡ some front → go (front .item) (front .rest) ≡ some b → C) → C
-  then-read none go b e more = let z : _≡_ {A = ℕ} 0 1 = cc in absurd (omega arith)
+  then-read none go b e more = absurd (clash cc)
   then-read (some front) go b e more = more front refl e
 
 -- what stands after given bytes may be spelled out
@@ -33,13 +34,13 @@ literal-back (g ∷ given) rest = rw (eq-eqb g g refl) (literal-back given rest)
 
 pub literal-read : (given text : List ℕ) (front : Front (Unit {0})) → literal given text ≡ some front → text ≡ given ++ front .rest
 literal-read [] text front e = ap (λ (f : Front (Unit {0})). f .rest) (let q : record { item = tt; rest = text } ≡ front = cc in q)
-literal-read (g ∷ given) [] front e = let z : _≡_ {A = ℕ} 0 1 = cc in absurd (omega arith)
+literal-read (g ∷ given) [] front e = absurd (clash cc)
 literal-read (g ∷ given) (b ∷ text) front e = of (eqb b g) refl e (literal-read given text front)
   where
     of : (s : Bool) → eqb b g ≡ s → cond s (literal given text) none ≡ some front → (literal given text ≡ some front → text ≡ given ++ front .rest)
         → b ∷ text ≡ g ∷ (given ++ front .rest)
     of true s q more = ap (λ (x : ℕ). x ∷ text) (eqb-true b g s) ∙ ap (λ (l : List ℕ). g ∷ l) (more q)
-    of false s q more = let z : _≡_ {A = ℕ} 0 1 = cc in absurd (omega arith)
+    of false s q more = absurd (clash cc)
 
 -- the switch
 
@@ -59,7 +60,7 @@ switch-read text front e = of (literal (bytes "seq=on\n") text) (literal (bytes 
     of none (some f) i j q =
         let p : record { item = false; rest = f .rest } ≡ front = cc in
         rw (← p) (literal-read (bytes "seq=off\n") text f j)
-    of none none i j q = let z : _≡_ {A = ℕ} 0 1 = cc in absurd (omega arith)
+    of none none i j q = absurd (clash cc)
 
 -- the announced number's line
 
@@ -172,14 +173,14 @@ pub record CyclesRead (n : ℕ) (text : List ℕ) (es : List Entry) : Type 0 whe
 
 pub cycles-read : (n : ℕ) (text : List ℕ) (es : List Entry) → cycleLines n text ≡ some es → CyclesRead n text es
 cycles-read zero [] es e = let q : [] ≡ es = cc in rw (← q) (record { long = refl; hold = tt; text-is = refl })
-cycles-read zero (b ∷ text) es e = let z : _≡_ {A = ℕ} 0 1 = cc in absurd (omega arith)
+cycles-read zero (b ∷ text) es e = absurd (clash cc)
 cycles-read (suc n) text es e =
     then-read (cycleLine text) (λ e rest. withEntry e (cycleLines n rest)) es e λ line i e.
     of (cycleLines n (line .rest)) (line .item) refl e (cycle-read text line i) (λ fs. cycles-read n (line .rest) fs)
   where
     of : {rest : List ℕ} (o : Option (List Entry)) (item : Entry) → cycleLines n rest ≡ o → withEntry item o ≡ some es → CycleRead text (record { item = item; rest = rest })
         → ((fs : List Entry) → cycleLines n rest ≡ some fs → CyclesRead n rest fs) → CyclesRead (suc n) text es
-    of none item i q line more = let z : _≡_ {A = ℕ} 0 1 = cc in absurd (omega arith)
+    of none item i q line more = absurd (clash cc)
     of (some fs) item i q line more =
         let p : item ∷ fs ≡ es = cc in
         let r = more fs i in

@@ -3,7 +3,7 @@
 use mathlib.Core.Path.{_≡_, sym, ap, _∙_}
 use mathlib.Core.Bool.{Bool, true, false, cond}
 use mathlib.Core.List.{List, [], _∷_, _++_, append-assoc}
-use Prim.Native.Nat.{ℕ, suc, _+_, _-_, _<_, _≤_}
+use Prim.Native.Nat.{ℕ, suc, _+_, _-_, _/_, _%_, _<_, _≤_}
 use native.Mathlib.Nat.{add-assoc}
 use native.Mathlib.Numerals.{add-one}
 use native.Mathlib.Omega.{arith}
@@ -11,7 +11,7 @@ use borrow.Author.Tests.{le-leb, lt-leb}
 use lib.ListN.{length, drop, take, getD, set, length-append, length-drop, drop-of-length-le}
 use lib.Dec.{leb}
 use lib.Seq.{drop-cons, paste, paste-suc, take-length, take-all, take-at, length-take-le}
-use Rattle.bench_text.specs.Digits.{withoutZeros, fixed, decimal}
+use Rattle.bench_text.specs.Digits.{digitByte, withoutZeros, fixed, decimal}
 use Rattle.bench_text.specs.Writing.{Writes, Puts}
 
 -- a turn of the loop that puts bytes
@@ -76,3 +76,14 @@ without-le (d ∷ e ∷ ds) = one (leb d 48) (without-le (e ∷ ds))
 pub decimal-short : (n : ℕ) → length (decimal n) ≤ 5
 unfolding decimal
 decimal-short n = without-le (fixed 10 5 n)
+
+-- a number below 10,000 has at most four digits
+pub decimal-four : (n : ℕ) → n < 10000 → length (decimal n) ≤ 4
+unfolding decimal
+decimal-four n h =
+    let e : n / 10 / 10 / 10 / 10 % 10 ≡ 0 = omega arith in
+    rw e (without-le (digitByte (n / 10 / 10 / 10 % 10) ∷ digitByte (n / 10 / 10 % 10) ∷ digitByte (n / 10 % 10) ∷ digitByte (n % 10) ∷ []))
+
+pub decimal-zero : length (decimal 0) ≤ 1
+unfolding decimal
+decimal-zero = omega arith

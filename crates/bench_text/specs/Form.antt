@@ -5,8 +5,7 @@ use mathlib.Core.List.{List, [], _∷_, _++_, map}
 use mathlib.Core.Option.{Option, none, some}
 use lib.ListN.{length}
 use lib.Dec.{eqb, leb, ltb}
-use Rattle.signals.specs.declared.Refusal.{Refusal}
-use Rattle.signals.specs.declared.Refusal.the-variants.{TooLong, BadText}
+use Rattle.signals.specs.Tables.{Row, _⇐_, firstOf}
 use Rattle.bench_text.specs.Digits.{bytes, digitOf, fixed, numberFrom, decimal}
 
 -- the longest trace that a text may announce
@@ -17,15 +16,16 @@ maxAnnounced = 4096
 abbrev pub maxText : ℕ
 maxText = 53281
 
--- A trace with its switch, and what reading a text gives: one of these, or the refusal.
+-- A trace with its switch.
 pub record Trace : Type 0 where
   pub seq : Bool
   pub controls : List ℕ
   pub words : List ℕ
 
+-- What reading a text gives: a trace, or the number of a refusal.
 pub data Reading : Type 0 where
   trace : Trace → Reading
-  refused : Refusal → Reading
+  refused : ℕ → Reading
 
 -- What is read at the front of a text, and the text after it.
 pub record Front (A : Type 0) : Type 0 where
@@ -44,33 +44,37 @@ literal [] text = some (record { item = tt; rest = text })
 literal (g ∷ gs) [] = none
 literal (g ∷ gs) (b ∷ text) = cond (eqb b g) (literal gs text) none
 
--- seq=on or seq=off
+-- one or the other
 abbrev pub orElse : {A : Type 0} → Option A → Option A → Option A
 orElse none other = other
 orElse (some a) other = some a
 
+-- seq=on or seq=off
 abbrev pub switch : List ℕ → Option (Front Bool)
 switch text =
     orElse (then (literal (bytes "seq=on\n") text) (λ _ rest. some (record { item = true; rest = rest })))
     (then (literal (bytes "seq=off\n") text) (λ _ rest. some (record { item = false; rest = rest })))
 
--- the decimal digits at the front of a text
+-- a digit before others
 abbrev pub before : ℕ → Front (List ℕ) → Front (List ℕ)
 before d front = record { item = d ∷ front .item; rest = front .rest }
 
+-- a byte that is no digit ends them
 abbrev pub orEnd : Option ℕ → (text : List ℕ) → Front (List ℕ) → Front (List ℕ)
 orEnd none text front = record { item = []; rest = text }
 orEnd (some d) text front = before d front
 
+-- the decimal digits at the front of a text
 abbrev pub digits : List ℕ → Front (List ℕ)
 digits [] = record { item = []; rest = [] }
 digits (b ∷ text) = orEnd (digitOf 10 b) (b ∷ text) (digits text)
 
--- one to five of them, no leading zero but 0 itself
+-- one to five digits, no leading zero but 0 itself
 abbrev pub legalNumber : (digits : List ℕ) → Bool
 legalNumber [] = false
 legalNumber (d ∷ ds) = leb (length ds) 4 && (leb 1 d || eqb (length ds) 0)
 
+-- a number at the front of a text
 abbrev pub number : List ℕ → Option (Front ℕ)
 number text =
     cond (legalNumber (digits text .item))
@@ -85,24 +89,27 @@ announced text =
     then (literal (bytes "\n") rest) λ _ rest.
     some (record { item = cycles; rest = rest })
 
--- one hex digit, and k of them after those that stand for n
+-- a digit that was read, and the text after it
 abbrev pub atFront : Option ℕ → (rest : List ℕ) → Option (Front ℕ)
 atFront none rest = none
 atFront (some d) rest = some (record { item = d; rest = rest })
 
+-- one hex digit
 abbrev pub hexDigit : List ℕ → Option (Front ℕ)
 hexDigit [] = none
 hexDigit (b ∷ text) = atFront (digitOf 16 b) text
 
+-- k hex digits, after those that stand for n
 abbrev pub hexFrom : (n k : ℕ) → List ℕ → Option (Front ℕ)
 hexFrom n zero text = some (record { item = n; rest = text })
 hexFrom n (suc k) text = then (hexDigit text) λ d rest. hexFrom (n * 16 + d) k rest
 
--- c= with two hex digits of control and eight of data
+-- what one cycle line records
 pub record Entry : Type 0 where
   pub control : ℕ
   pub word : ℕ
 
+-- c= with two hex digits of control and eight of data
 abbrev pub cycleLine : List ℕ → Option (Front Entry)
 cycleLine text =
     then (literal (bytes "c=") text) λ _ rest.
@@ -111,24 +118,27 @@ cycleLine text =
     then (literal (bytes "\n") rest) λ _ rest.
     some (record { item = record { control = control; word = word }; rest = rest })
 
--- n of these lines, and nothing after them
+-- an entry before others, if they are there
 abbrev pub withEntry : Entry → Option (List Entry) → Option (List Entry)
 withEntry e none = none
 withEntry e (some es) = some (e ∷ es)
 
+-- no entry, at the end of the text
 abbrev pub atEnd : List ℕ → Option (List Entry)
 atEnd [] = some []
 atEnd (b ∷ text) = none
 
+-- n cycle lines, and nothing after them
 abbrev pub cycleLines : (n : ℕ) → List ℕ → Option (List Entry)
 cycleLines zero text = atEnd text
 cycleLines (suc n) text = then (cycleLine text) λ e rest. withEntry e (cycleLines n rest)
 
--- the three header lines
+-- what the header says
 pub record Header : Type 0 where
   pub seq : Bool
   pub cycles : ℕ
 
+-- the three header lines
 abbrev pub header : List ℕ → Option (Front Header)
 header text =
     then (literal (bytes "kind=stream\n") text) λ _ rest.
@@ -136,22 +146,54 @@ header text =
     then (announced rest) λ cycles rest.
     some (record { item = record { seq = seq; cycles = cycles }; rest = rest })
 
--- A whole text: a bad header is 9, then 3, then a bad, missing or surplus cycle line is 9.
-abbrev pub traceOf : (seq : Bool) → Option (List Entry) → Reading
-traceOf seq none = refused BadText
-traceOf seq (some es) =
-    trace (record { seq = seq; controls = map (λ e. e .control) es; words = map (λ e. e .word) es })
+-- the cycle lines that a header announces
+abbrev pub linesAfter : Option (Front Header) → Option (List Entry)
+linesAfter none = none
+linesAfter (some front) = cycleLines (front .item .cycles) (front .rest)
 
-abbrev pub afterHeader : Option (Front Header) → Reading
-afterHeader none = refused BadText
-afterHeader (some front) =
-    cond (ltb maxAnnounced (front .item .cycles)) (refused TooLong)
-    (traceOf (front .item .seq) (cycleLines (front .item .cycles) (front .rest)))
+-- whether a header announces more cycles than a text may
+abbrev pub tooMany : Option (Front Header) → Bool
+tooMany none = false
+tooMany (some front) = ltb maxAnnounced (front .item .cycles)
 
+abbrev pub missing : {A : Type 0} → Option A → Bool
+missing none = true
+missing (some a) = false
+
+-- The grounds for refusing a text with this header, in the order in which they are tried: a bad header line; too many cycles; a bad,
+-- missing or surplus cycle line.
+abbrev pub grounds : Option (Front Header) → List (Row ℕ)
+grounds head =
+    9 ⇐ missing head
+    ∷ 3 ⇐ tooMany head
+    ∷ 9 ⇐ missing (linesAfter head)
+    ∷ []
+
+-- the trace of entries
+abbrev pub traceFrom : (seq : Bool) → List Entry → Trace
+traceFrom seq es = record { seq = seq; controls = map (λ e. e .control) es; words = map (λ e. e .word) es }
+
+-- the trace of a header and its lines, if both are there
+abbrev pub seqIn : Option (Front Header) → Bool
+seqIn none = false
+seqIn (some front) = front .item .seq
+
+abbrev pub entriesIn : Option (List Entry) → List Entry
+entriesIn none = []
+entriesIn (some es) = es
+
+abbrev pub traceIn : Option (Front Header) → Trace
+traceIn head = traceFrom (seqIn head) (entriesIn (linesAfter head))
+
+abbrev pub readUnless : (refusal : Option ℕ) → Trace → Reading
+readUnless none t = trace t
+readUnless (some n) t = refused n
+
+-- what a whole text reads as
 unfoldable pub reading : (text : List ℕ) → Reading
-reading text = afterHeader (header text)
+reading text = readUnless (firstOf (grounds (header text))) (traceIn (header text))
 
--- The text of a trace.
+-- the line of an entry
 abbrev pub entryLine : Entry → List ℕ
 entryLine e = bytes "c=" ++ fixed 16 2 (e .control) ++ fixed 16 8 (e .word) ++ bytes "\n"
 
@@ -159,6 +201,7 @@ abbrev pub entryLines : List Entry → List ℕ
 entryLines [] = []
 entryLines (e ∷ es) = entryLine e ++ entryLines es
 
+-- the lines of a header
 abbrev pub switchLine : Bool → List ℕ
 switchLine true = bytes "seq=on\n"
 switchLine false = bytes "seq=off\n"
@@ -166,5 +209,6 @@ switchLine false = bytes "seq=off\n"
 abbrev pub headerLines : Header → List ℕ
 headerLines h = bytes "kind=stream\n" ++ switchLine (h .seq) ++ bytes "cycles=" ++ decimal (h .cycles) ++ bytes "\n"
 
+-- the text of a trace
 abbrev pub textOf : (seq : Bool) → List Entry → List ℕ
 textOf seq es = headerLines (record { seq = seq; cycles = length es }) ++ entryLines es

@@ -1,4 +1,5 @@
--- What the parser's answers mean for the form: a place in the text stands for the text from there on. Assumes nothing.
+-- What the parser's answers mean for the form: a place in the text stands for the text from there on. The contracts of private
+-- functions cite this; the promise of `report` does not. Assumes nothing.
 use Prim.Native.Nat.{ℕ, _≤_, _<_, _^_}
 use mathlib.Core.Bool.{Bool, cond}
 use mathlib.Core.List.{List}
@@ -6,8 +7,9 @@ use mathlib.Core.Option.{Option, none, some}
 use mathlib.Core.Path.{_≡_}
 use lib.ListN.{length, drop, take}
 use lib.Dec.{leb}
+use Rattle.signals.specs.Refusals.{numberOf}
 use Rattle.bench_text.specs.Digits.{numberFrom}
-use Rattle.bench_text.specs.Form.{Front, Header, Entry, Reading, trace, refused, hexFrom, cycleLines, traceOf, reading}
+use Rattle.bench_text.specs.Form.{Front, Header, Entry, Reading, trace, refused, hexFrom, cycleLines, traceFrom, reading}
 use Rattle.bench_text.specs.declared.parse.Place.{Place}
 use Rattle.bench_text.specs.declared.parse.Place.the-variants as place
 use Rattle.bench_text.specs.declared.parse.Switched.{Switched}
@@ -66,11 +68,16 @@ pub record ReadsHex (text : List ℕ) (k : ℕ) (at : ℕ) (r : Number) : Type 0
   pub reads : hexFrom 0 k (drop at text) ≡ numbered r text
   pub below : Below r (16 ^ k)
 
+-- what cycle lines read as: their trace, or 9
+abbrev pub linesRead : (seq : Bool) → Option (List Entry) → Reading
+linesRead seq none = refused 9
+linesRead seq (some es) = trace (traceFrom seq es)
+
 -- the trace stands at the start of two arrays
 abbrev pub parsed : Parsed → (controls words : List ℕ) → Reading
 parsed (parses.Trace seq cycles) controls words =
     trace (record { seq = seq; controls = take cycles controls; words = take cycles words })
-parsed (parses.Refused why) controls words = refused why
+parsed (parses.Refused why) controls words = refused (numberOf why)
 
 abbrev pub cyclesOf : Parsed → ℕ
 cyclesOf (parses.Trace seq cycles) = cycles
@@ -78,7 +85,7 @@ cyclesOf (parses.Refused why) = 0
 
 -- what `cycle_lines` answers: the trace of the lines, and no more cycles than the arrays hold
 pub record ReadsLines (text : List ℕ) (from : ℕ) (seq : Bool) (cycles : ℕ) (r : Parsed) (controls words : List ℕ) : Type 0 where
-  pub reads : traceOf seq (cycleLines cycles (drop from text)) ≡ parsed r controls words
+  pub reads : linesRead seq (cycleLines cycles (drop from text)) ≡ parsed r controls words
   pub within : (cyclesOf r ≤ length controls) × (cyclesOf r ≤ length words)
 
 -- what `parse` answers: what the form reads, and no more cycles than the arrays hold

@@ -1,25 +1,19 @@
 -- Document 01, "Bench text": the report of a text, and what `report` promises. Assumes nothing.
 use Prim.Native.Nat.{ℕ}
-use mathlib.Core.Bool.{Bool, true, false, cond}
-use mathlib.Core.List.{List, _++_}
+use mathlib.Core.Bool.{cond}
+use mathlib.Core.List.{List, [], _∷_, _++_}
 use mathlib.Core.Path.{_≡_}
 use lib.ListN.{length, drop}
-use lib.Dec.{leb}
-use Rattle.signals.specs.declared.Refusal.the-variants.{OutputTooShort}
-use Rattle.signals.specs.declared.Outcome.the-variants.{Accepted, Refused}
-use Rattle.signals.specs.Written.{Word, clean, broken, refused, RuleName, number, seq, align, Written, writtenRefused}
-use Rattle.stream_checker.specs.declared.Checked.{Checked}
+use lib.Dec.{ltb}
+use Rattle.signals.specs.Tables.{Row, _⇐_, firstOf}
+use Rattle.signals.specs.Refusals.{refusalOf, accepts}
+use Rattle.signals.specs.Judging.{clean, broken}
+use Rattle.signals.specs.Written.{RuleName, number, seq, align, Written, judged, refused, Judgement}
 use Rattle.stream_checker.specs.Verdicts.{checkStream}
-use Rattle.stream_checker.specs.Written.{written}
 use Rattle.bench_text.specs.declared.Reported.{Reported}
 use Rattle.bench_text.specs.Digits.{bytes, decimal}
 use Rattle.bench_text.specs.Form as form
 use Rattle.bench_text.specs.Form.{Reading, reading}
-
-abbrev pub wordBytes : Word → List ℕ
-wordBytes clean = bytes "clean"
-wordBytes broken = bytes "broken"
-wordBytes refused = bytes "refused"
 
 abbrev pub ruleBytes : RuleName → List ℕ
 ruleBytes (number n) = decimal n
@@ -39,36 +33,39 @@ sixLines kind cycles verdict rule at handshakes =
     ++ line (bytes "at=") (decimal at)
     ++ line (bytes "handshakes=") (decimal handshakes)
 
-abbrev pub isRefused : Word → Bool
-isRefused clean = false
-isRefused broken = false
-isRefused refused = true
+-- of a verdict on so many announced cycles, with the handshake count; a refused text has kind none and no cycles
+abbrev pub verdictLines : (cycles handshakes : ℕ) → Written → List ℕ
+verdictLines cycles handshakes (judged clean) =
+    sixLines (bytes "stream") cycles (bytes "clean") (bytes "0") 0 handshakes
+verdictLines cycles handshakes (judged (broken rule c)) =
+    sixLines (bytes "stream") cycles (bytes "broken") (ruleBytes rule) c handshakes
+verdictLines cycles handshakes (refused n) =
+    sixLines (bytes "none") 0 (bytes "refused") (decimal n) 0 handshakes
 
--- with the announced number of cycles, but kind none and 0 cycles for a refused text
-abbrev pub lines : (cycles : ℕ) → Written → (handshakes : ℕ) → List ℕ
-lines cycles w handshakes =
-    sixLines (cond (isRefused (w .verdict)) (bytes "none") (bytes "stream")) (cond (isRefused (w .verdict)) 0 cycles)
-    (wordBytes (w .verdict)) (ruleBytes (w .rule)) (w .cycle) handshakes
+abbrev pub lines : (cycles : ℕ) → Judgement → List ℕ
+lines cycles j = verdictLines cycles (j .handshakes) (j .verdict)
 
 -- the most bytes that a report has
 abbrev pub maxReport : ℕ
-maxReport = 78
+maxReport = 72
 
 -- the report of what was read: a trace goes to the stream checker
 abbrev pub reportOn : Reading → List ℕ
-reportOn (form.refused why) = lines 0 (writtenRefused why) 0
-reportOn (form.trace t) =
-    let checked : Checked = checkStream (t .controls) (t .words) (t .seq) in
-    lines (length (t .controls)) (written (checked .verdict)) (checked .handshakes)
+reportOn (form.refused n) = verdictLines 0 0 (refused n)
+reportOn (form.trace t) = lines (length (t .controls)) (checkStream (t .controls) (t .words) (t .seq))
 
 unfoldable pub reportOf : (text : List ℕ) → List ℕ
 reportOf text = reportOn (reading text)
 
--- What is given stands at the start of the output, and what lies beyond stays; an output that is too short is refused with 7.
+-- the ground for refusing an output: it has less room than what is given needs
+abbrev pub outGrounds : (given out : List ℕ) → List (Row ℕ)
+outGrounds given out = 7 ⇐ ltb (length out) (length given) ∷ []
+
+-- What is given stands at the start of the output, and what lies beyond stays; an output that is refused is left as it was.
 pub record Delivers (given out : List ℕ) (r : Reported) (exit : List ℕ) : Type 0 where
-  pub outcome : r .outcome ≡ cond (leb (length given) (length out)) Accepted (Refused OutputTooShort)
-  pub count : r .count ≡ cond (leb (length given) (length out)) (length given) 0
-  pub writes : exit ≡ cond (leb (length given) (length out)) (given ++ drop (length given) out) out
+  pub refusal : refusalOf (r .outcome) ≡ firstOf (outGrounds given out)
+  pub count : r .count ≡ cond (accepts (firstOf (outGrounds given out))) (length given) 0
+  pub writes : exit ≡ cond (accepts (firstOf (outGrounds given out))) (given ++ drop (length given) out) out
 
 -- what `report` promises of any text and any output
 abbrev pub Reports : (text out : List ℕ) (r : Reported) (exit : List ℕ) → Type 0

@@ -2,12 +2,12 @@
 -- too many cycles, and 9 exactly for every other text. `proofs/RoundTrip.antt` has the proofs. Assumes nothing.
 use Prim.Native.Nat.{ℕ, _<_, _≤_, _^_}
 use mathlib.Core.Bool.{Bool}
-use mathlib.Core.List.{List, [], _∷_, _++_, map}
+use mathlib.Core.List.{List, [], _∷_, _++_}
 use mathlib.Core.Logic.{_↔_}
 use mathlib.Core.Path.{_≡_}
 use lib.ListN.{length, take}
-use Rattle.signals.specs.declared.Refusal.the-variants.{TooLong, BadText}
-use Rattle.bench_text.specs.Form.{maxAnnounced, maxText, Trace, trace, refused, Entry, Header, reading, headerLines, textOf}
+use Rattle.bench_text.specs.Form.{maxAnnounced, maxText, Trace, trace, refused, Entry, Header, traceFrom, reading, headerLines, textOf}
+use Rattle.bench_text.specs.Report.{maxReport, reportOf}
 
 -- what a byte of control and 32 bits of data can hold; the control byte need not be legal
 pub record Holds (e : Entry) : Type 0 where
@@ -17,10 +17,6 @@ pub record Holds (e : Entry) : Type 0 where
 abbrev pub AllHold : List Entry → Type 0
 AllHold [] = Unit {0}
 AllHold (e ∷ es) = Holds e × AllHold es
-
--- the trace of entries
-abbrev pub traceFrom : (seq : Bool) → List Entry → Trace
-traceFrom seq es = record { seq = seq; controls = map (λ e. e .control) es; words = map (λ e. e .word) es }
 
 -- A text is of the form: it is the text of entries, at most as many as may be announced, and this is their trace.
 pub record OfForm (text : List ℕ) (t : Trace) : Type 0 where
@@ -46,9 +42,13 @@ ReadsBack = (seq : Bool) (es : List Entry) → length es ≤ maxAnnounced → Al
 -- what each answer means, for any text
 pub record Means (text : List ℕ) : Type 0 where
   pub trace-exactly : (t : Trace) → (reading text ≡ trace t) ↔ OfForm text t
-  pub three-exactly : (reading text ≡ refused TooLong) ↔ TooMany text
-  pub nine-exactly : (reading text ≡ refused BadText) ↔ (((t : Trace) → OfForm text t → ⊥) × (TooMany text → ⊥))
+  pub three-exactly : (reading text ≡ refused 3) ↔ TooMany text
+  pub nine-exactly : (reading text ≡ refused 9) ↔ (((t : Trace) → OfForm text t → ⊥) × (TooMany text → ⊥))
 
 -- a text reads as its first 53,281 bytes do
 abbrev pub DecidedEarly : Type 0
 DecidedEarly = (text : List ℕ) → reading (take maxText text) ≡ reading text
+
+-- every report fits the room that `bench` has for it
+abbrev pub ReportsFit : Type 0
+ReportsFit = (text : List ℕ) → length (reportOf text) ≤ maxReport

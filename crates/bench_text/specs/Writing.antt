@@ -1,4 +1,5 @@
--- What the functions that write a report promise of the array they write into. Assumes nothing.
+-- What the private functions that write a report promise of the array they write into; the promise of `report` does not cite this.
+-- Assumes nothing.
 use Prim.Native.Nat.{ℕ, _+_, _<_}
 use mathlib.Core.List.{List, _++_}
 use mathlib.Core.Path.{_≡_}

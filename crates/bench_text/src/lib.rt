@@ -9,17 +9,33 @@ use parse::Parsed;
 use parse::parse;
 use signals::Outcome;
 use stream_checker::check_stream;
+use write::ROOM;
 use write::checked_lines;
 use write::deliver;
 use write::refused_lines;
-ghost use Rattle.bench_text.specs.Report.{reportOf, Reports};
+ghost use mathlib.Core.Path.{_≡_};
+ghost use Rattle.bench_text.specs.Form.{maxText};
+ghost use Rattle.bench_text.specs.Report.{maxReport, reportOf, Reports};
 ghost use Rattle.bench_text.specs.Writing.{Writes};
 
 // How many bytes of a text decide any answer: one more than the longest legal text has.
 pub const MAX_TEXT: usize = 53281;
 
 // The most bytes that a report has.
-pub const MAX_REPORT: usize = 78;
+pub const MAX_REPORT: usize = 72;
+
+// The two as values; each is the definitions'.
+pub fn max_text() -> usize
+    ensures { λ r. ⌜ r ≡ maxText ⌝ }
+{
+    MAX_TEXT
+}
+
+pub fn max_report() -> usize
+    ensures { λ r. ⌜ r ≡ maxReport ⌝ }
+{
+    MAX_REPORT
+}
 
 // Whether the report was written, and how many bytes it has.
 pub struct Reported {
@@ -28,7 +44,7 @@ pub struct Reported {
 }
 
 // The report of a text, and how many bytes it has.
-fn made(text: &[u8], out: &mut [u8; MAX_REPORT]) -> usize
+fn made(text: &[u8], out: &mut [u8; ROOM]) -> usize
     ensures { λ r. ⌜ Writes (now (out .entry)) 0 (reportOf (now (text .entry))) r (now (out .exit)) ⌝ }
 {
     let mut control = [0u8; MAX_ANNOUNCED];
@@ -46,7 +62,7 @@ fn made(text: &[u8], out: &mut [u8; MAX_REPORT]) -> usize
 pub fn report(text: &[u8], out: &mut [u8]) -> Reported
     ensures { λ r. ⌜ Reports (now (text .entry)) (now (out .entry)) r (now (out .exit)) ⌝ }
 {
-    let mut whole = [0u8; MAX_REPORT];
+    let mut whole = [0u8; ROOM];
     let count = made(text, &mut whole);
     deliver(&whole[..count], out)
 }

@@ -1,7 +1,6 @@
 // Writes the lines of a report into an array, from a place on.
 //
 // `specs/Report.antt` has the lines, and `specs/Writing.antt` says what stands in the array afterwards.
-use crate::MAX_REPORT;
 use crate::Reported;
 use signals::Outcome;
 use signals::Refusal;
@@ -11,12 +10,16 @@ use stream_checker::Verdict;
 ghost use mathlib.Core.Path.{_≡_};
 ghost use Prim.Native.Nat.{_+_, _≤_, _%_};
 ghost use lib.ListN.{length};
-ghost use Rattle.signals.specs.Written.{writtenRefused};
+ghost use Rattle.signals.specs.Refusals.{numberOf};
+ghost use Rattle.signals.specs.Written.{refused};
 ghost use Rattle.stream_checker.specs.Written.{written};
 ghost use Rattle.bench_text.specs.Digits.{digitByte, fixed, decimal};
 ghost use Rattle.bench_text.specs.Report as spec;
-ghost use Rattle.bench_text.specs.Report.{sixLines, lines, Delivers};
+ghost use Rattle.bench_text.specs.Report.{sixLines, verdictLines, lines, Delivers};
 ghost use Rattle.bench_text.specs.Writing.{Writes, Puts, FirstDigit};
+
+// Room for six lines whose numbers have five digits each.
+pub const ROOM: usize = 78;
 
 // Given bytes, from a place on; answers the place after them.
 fn put(out: &mut [u8], at: usize, given: &[u8]) -> usize
@@ -94,7 +97,7 @@ fn number_line(out: &mut [u8], at: usize, key: &[u8], n: usize) -> usize
 
 // The six lines of a report.
 fn six_lines(
-    out: &mut [u8; MAX_REPORT],
+    out: &mut [u8; ROOM],
     kind: &[u8],
     cycles: usize,
     verdict: &[u8],
@@ -114,8 +117,8 @@ fn six_lines(
 }
 
 // The report of a refusal, and of a count beside it.
-pub fn refused_lines(out: &mut [u8; MAX_REPORT], why: Refusal, handshakes: u32) -> usize
-    ensures { λ r. ⌜ Writes (now (out .entry)) 0 (lines 0 (writtenRefused why) handshakes) r (now (out .exit)) ⌝ }
+pub fn refused_lines(out: &mut [u8; ROOM], why: Refusal, handshakes: u32) -> usize
+    ensures { λ r. ⌜ Writes (now (out .entry)) 0 (verdictLines 0 handshakes (refused (numberOf why))) r (now (out .exit)) ⌝ }
 {
     let digits = five_digits(why.number() as usize);
     let first = first_digit(&digits);
@@ -123,8 +126,8 @@ pub fn refused_lines(out: &mut [u8; MAX_REPORT], why: Refusal, handshakes: u32) 
 }
 
 // The report of a verdict on a trace of so many cycles.
-pub fn checked_lines(out: &mut [u8; MAX_REPORT], cycles: usize, checked: Checked) -> usize
-    ensures { λ r. ⌜ Writes (now (out .entry)) 0 (lines cycles (written (checked .verdict)) (checked .handshakes)) r (now (out .exit)) ⌝ }
+pub fn checked_lines(out: &mut [u8; ROOM], cycles: usize, checked: Checked) -> usize
+    ensures { λ r. ⌜ Writes (now (out .entry)) 0 (lines cycles (written checked)) r (now (out .exit)) ⌝ }
 {
     let handshakes = checked.handshakes;
     let verdict = checked.verdict;

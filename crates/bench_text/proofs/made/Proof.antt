@@ -3,6 +3,7 @@ use mathlib.Core.Path.{sym}
 use borrow.Author.Needs.{needs}
 use lib.Seq.{length-take-le}
 use Rattle.bench_text.specs.Report.{reportOf}
+use Rattle.bench_text.proofs.Reporting.{lines-as}
 use Rattle.bench_text.proofs.made.Statement.{statement}
 use Rattle.bench_text.proofs.made.Tie as tie
 
@@ -41,7 +42,7 @@ unfolding reportOf
 returns c =
     let within = rw (c .before .before .before .before .before .before .seq .given .1) at (c .before .before .before .before .before .before .before .before .parse .ensures .within .0) in
     rw (c .before .before .before .before .before .before .before .before .parse .ensures .reads, c .before .before .before .before .before .before .seq .given .1, length-take-le _ _ within)
-    (rw (c .before .before .check-stream .ensures) at (c .checked-lines .ensures))
+    (lines-as _ _ _ (c .before .before .check-stream .ensures) (c .checked-lines .ensures))
 
 returns-2 : tie.Need-returns-2
 unfolding reportOf

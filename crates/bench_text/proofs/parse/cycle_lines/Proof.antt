@@ -6,7 +6,8 @@ use native.Mathlib.Nat.{sub-zero}
 use borrow.Author.Needs.{needs}
 use native.Mathlib.Omega.{arith}
 use lib.ListN.{length, drop, take, length-set}
-use Rattle.bench_text.specs.Form.{traceOf, cycleLines}
+use Rattle.bench_text.specs.Form.{cycleLines}
+use Rattle.bench_text.specs.Places.{linesRead}
 use Rattle.bench_text.proofs.Lines.{traceAfter, lines-start, lines-stop, lines-go-on, lines-end, lines-surplus}
 use Rattle.bench_text.proofs.parse.cycle_lines.Statement.{statement}
 use Rattle.bench_text.proofs.parse.cycle_lines.Tie as tie
@@ -16,7 +17,7 @@ Inv-loop text from seq cycles control₀ words₀ here₀ i₀ control words her
     (i ≤ cycles)
     × (length control ≡ length control₀)
     × (length words ≡ length words₀)
-    × (traceOf seq (cycleLines cycles (drop from text)) ≡ traceAfter seq (take i control) (take i words) (cycleLines (cycles - i) (drop here text)))
+    × (linesRead seq (cycleLines cycles (drop from text)) ≡ traceAfter seq (take i control) (take i words) (cycleLines (cycles - i) (drop here text)))
 
 abbrev μ-loop : tie.MeasureT-loop
 μ-loop text from seq cycles control₀ words₀ here₀ i₀ control words here i = cycles - i

@@ -2,7 +2,9 @@
 use borrow.Author.Needs.{needs}
 use borrow.Author.Tests.{lt-ltb, le-ltb}
 use native.Mathlib.Omega.{arith}
-use Rattle.bench_text.specs.Form.{reading, maxAnnounced}
+use mathlib.Core.Path.{_∙_}
+use Rattle.bench_text.specs.Form.{maxAnnounced}
+use Rattle.bench_text.proofs.Reading.{reading-is}
 use Rattle.bench_text.proofs.parse.parse.Statement.{statement}
 use Rattle.bench_text.proofs.parse.parse.Tie as tie
 
@@ -16,10 +18,9 @@ cast-count : tie.Need-cast-count
 cast-count c = search needs
 
 returns : tie.Need-returns
-unfolding reading
 returns c =
     record {
-      reads = rw (c .before .before .before .before .header .ensures, c .before .before .seq .given .1, lt-ltb maxAnnounced _ (c .if1 .taken));
+      reads = reading-is _ ∙ rw (c .before .before .before .before .header .ensures, c .before .before .seq .given .1, lt-ltb maxAnnounced _ (c .if1 .taken));
       within = (omega arith, omega arith);
     }
 
@@ -30,16 +31,14 @@ enum-told : tie.Need-enum-told
 enum-told c = search needs
 
 returns-2 : tie.Need-returns-2
-unfolding reading
 returns-2 c =
     record {
-      reads = rw (c .before .before .before .before .before .before .before .header .ensures, c .before .before .before .before .before .seq .given .1, le-ltb maxAnnounced _ (c .before .before .before .if1 .left)) (c .cycle-lines .ensures .reads);
+      reads = reading-is _ ∙ rw (c .before .before .before .before .before .before .before .header .ensures, c .before .before .before .before .before .seq .given .1, le-ltb maxAnnounced _ (c .before .before .before .if1 .left)) (c .cycle-lines .ensures .reads);
       within = c .cycle-lines .ensures .within;
     }
 
 returns-3 : tie.Need-returns-3
-unfolding reading
-returns-3 c = record { reads = rw (c .before .before .header .ensures, c .enum-told .given .1); within = (omega arith, omega arith) }
+returns-3 c = record { reads = reading-is _ ∙ rw (c .before .before .header .ensures, c .enum-told .given .1); within = (omega arith, omega arith) }
 
 pub parse-spec : {M : Type 1} → statement M
 parse-spec =
