@@ -11,7 +11,6 @@ use Rattle.signals.proofs.Bools.{either, both, not-both}
 use Rattle.signals.proofs.Judging.{order-of}
 use Rattle.mem_checker.specs.Rules.{firstWen, orWenOf, differs}
 use Rattle.mem_checker.specs.Meaning.{FirstHandshake, Turns, DirectionByIndex}
-use Rattle.mem_checker.proofs.Watching.{direction-is}
 
 -- two bools differ, as a test and as a fact
 unlike : (a b : Bool) → not (Bool·beq a b) ≡ true → a ≡ b → ⊥
@@ -75,5 +74,4 @@ module _ (trace : ℕ → Access) where
       rw (t .shaken) (unlike-test (trace c .wen) wen (λ q. t .other (q ∙ sym (s .has) ∙ sym same)))
 
 pub direction-by-index : DirectionByIndex
-direction-by-index trace c =
-    (λ e. turns trace c (firstWen trace c) (says trace c) (sym (direction-is trace c) ∙ e), λ t. direction-is trace c ∙ turned trace c (firstWen trace c) (says trace c) t)
+direction-by-index trace c = (turns trace c (firstWen trace c) (says trace c), turned trace c (firstWen trace c) (says trace c))

@@ -1,64 +1,54 @@
--- Every verdict is refused, or what the rules find, and `judges` says what they find: so it is enough to read a verdict's case back.
--- Assumes nothing.
-use Prim.Native.Nat.{ℕ}
-use native.Mathlib.Omega.{arith}
-use mathlib.Core.Path.{_≡_, refl, sym, _∙_, ap}
+-- The verdict and the count by signals' `means`. An open answer has a clean verdict, which tells the rest but for the last cycle;
+-- that one is a read handshake, bit by bit. Assumes nothing.
+use Prim.Native.Nat.{ℕ, zero, suc, _<_}
+use mathlib.Core.Bool.{true, false≢true}
+use mathlib.Core.List.{List}
+use mathlib.Core.Path.{_≡_, refl}
 use lib.ListN.{length}
-use Rattle.signals.specs.declared.Refusal.{Refusal}
-use Rattle.signals.specs.declared.Outcome.{Outcome}
-use Rattle.signals.specs.declared.Outcome.the-variants as outcomes
-use Rattle.signals.specs.Memory.{Access, accessAt}
-use Rattle.signals.specs.Judging.{Finding, clean, broken}
-use Rattle.signals.proofs.Judging.{judges}
-use Rattle.mem_checker.specs.declared.Rule.{Rule}
-use Rattle.mem_checker.specs.declared.Verdict.{Verdict}
-use Rattle.mem_checker.specs.declared.Verdict.the-variants.{Clean, Broken, Refused}
-use Rattle.mem_checker.specs.Rules.{Protocol, breaks, order}
-use Rattle.mem_checker.specs.Verdicts.{due, finding, verdictOf, judged, answered, checkMem}
-use Rattle.mem_checker.specs.Meaning.{EveryVerdict}
+use Rattle.signals.specs.Tables.{Row, NoneIn}
+use Rattle.signals.specs.Memory.{Access, accessAt, granted}
+use Rattle.signals.specs.Judging.{clean, broken}
+use Rattle.signals.specs.Written as written
+use Rattle.signals.specs.Written.{Written, judged, refused, Judgement}
+use Rattle.signals.proofs.Bools.{both}
+use Rattle.signals.proofs.Written.{means}
+use Rattle.mem_checker.specs.Rules.{Protocol, mem, memDecoupled, rules}
+use Rattle.mem_checker.specs.Verdicts.{grounds, endsInRead, isOpen, checkMem}
+use Rattle.mem_checker.specs.Meaning.{Open, EveryAnswer}
 
--- the verdict of an accepted trace, or of a refused one
-abbrev verdictAt : Outcome → Finding Rule → Verdict
-verdictAt outcomes.Accepted found = verdictOf found
-verdictAt (outcomes.Refused why) found = Refused why
+-- what is open is clean, is HWPE-Mem's, and ends in a read handshake
+tells-open :
+    (verdict : Written) (protocol : Protocol) (trace : ℕ → Access) (n : ℕ) → isOpen verdict protocol trace n ≡ true →
+    (verdict ≡ judged clean) × ((protocol ≡ mem) × (endsInRead trace n ≡ true))
+tells-open (judged clean) mem trace n e = (refl, (refl, e))
+tells-open (judged clean) memDecoupled trace n e = absurd (false≢true e)
+tells-open (judged (broken rule c)) protocol trace n e = absurd (false≢true e)
+tells-open (refused number) protocol trace n e = absurd (false≢true e)
 
--- which case a verdict has
-refused-back : (d : Outcome) (found : Finding Rule) (why : Refusal) → verdictAt d found ≡ Refused why → d ≡ outcomes.Refused why
-refused-back outcomes.Accepted clean why e = absurd (let z : _≡_ {A = ℕ} 0 1 = cc in omega arith)
-refused-back outcomes.Accepted (broken rule c) why e = absurd (let z : _≡_ {A = ℕ} 0 1 = cc in omega arith)
-refused-back (outcomes.Refused due) found why e = cc
+module _ (protocol : Protocol) (grounds : List (Row ℕ)) (trace : ℕ → Access) where
+  last-read : (n : ℕ) → protocol ≡ mem → NoneIn grounds → ((c : ℕ) → c < n → NoneIn (rules protocol trace c)) →
+      endsInRead trace n ≡ true → Open protocol grounds trace n
+  last-read zero p k u e = absurd (false≢true e)
+  last-read (suc c) p k u e =
+      let read = both (granted (trace c)) (trace c .wen) e in
+      let shaken = both (trace c .req) (trace c .gnt) (read .0) in
+      record { is-mem = p; accepted = k; unbroken = u; last = c; is-last = refl; req = shaken .0; gnt = shaken .1; wen = read .1 }
 
-clean-back : (d : Outcome) (found : Finding Rule) → verdictAt d found ≡ Clean → (d ≡ outcomes.Accepted) × (found ≡ clean)
-clean-back outcomes.Accepted clean e = (refl, refl)
-clean-back outcomes.Accepted (broken rule c) e = absurd (let z : _≡_ {A = ℕ} 0 1 = cc in omega arith)
-clean-back (outcomes.Refused due) found e = absurd (let z : _≡_ {A = ℕ} 0 1 = cc in omega arith)
+  module _ (n : ℕ) (j : Judgement) (m : written.Meaning grounds (rules protocol trace) (λ c. granted (trace c)) n j) where
+    open-means : isOpen (j .verdict) protocol trace n ≡ true → Open protocol grounds trace n
+    open-means e =
+        let t = tells-open (j .verdict) protocol trace n e in
+        let k = m .clean-exactly .0 (t .0) in
+        last-read n (t .1 .0) (k .0) (k .1) (t .1 .1)
 
-broken-back : (d : Outcome) (found : Finding Rule) (rule : Rule) (c : ℕ) → verdictAt d found ≡ Broken rule c → (d ≡ outcomes.Accepted) × (found ≡ broken rule c)
-broken-back outcomes.Accepted clean rule c e = absurd (let z : _≡_ {A = ℕ} 0 1 = cc in omega arith)
-broken-back outcomes.Accepted (broken q b) rule c e = (refl, cc)
-broken-back (outcomes.Refused due) found rule c e = absurd (let z : _≡_ {A = ℕ} 0 1 = cc in omega arith)
+    means-open : Open protocol grounds trace n → isOpen (j .verdict) protocol trace n ≡ true
+    means-open o = rw (m .clean-exactly .1 (o .accepted, o .unbroken), o .is-mem, ← o .is-last, o .req, o .gnt, o .wen)
 
-verdict-is : (d : Outcome) (protocol : Protocol) (trace : ℕ → Access) (n : ℕ) → answered d (judged protocol trace n) .verdict ≡ verdictAt d (finding protocol trace n)
-verdict-is outcomes.Accepted protocol trace n = refl
-verdict-is (outcomes.Refused why) protocol trace n = refl
-
-pub every-verdict : EveryVerdict
+pub every-answer : EveryAnswer
 unfolding checkMem
-every-verdict protocol controls adds datas rDatas =
+every-answer protocol controls adds datas rDatas =
+    let given = grounds (length controls) (length adds) datas rDatas in
     let trace = accessAt controls adds in
     let n = length controls in
-    let d = due n (length adds) datas rDatas in
-    let found = finding protocol trace n in
-    let rules = judges (order protocol) (breaks trace) n in
-    let here = verdict-is d protocol trace n in
-    record {
-      refused-exactly = λ why. (λ e. refused-back d found why (sym here ∙ e), λ e. here ∙ ap (λ (o : Outcome). verdictAt o found) e);
-      clean-exactly = (
-        λ e. (let b = clean-back d found (sym here ∙ e) in (b .0, rules .clean-exactly .0 (b .1))),
-        λ p. here ∙ ap (λ (o : Outcome). verdictAt o found) (p .0) ∙ ap verdictOf (rules .clean-exactly .1 (p .1)),
-      );
-      broken-exactly = λ rule c. (
-        λ e. (let b = broken-back d found rule c (sym here ∙ e) in (b .0, rules .broken-exactly rule c .0 (b .1))),
-        λ p. here ∙ ap (λ (o : Outcome). verdictAt o found) (p .0) ∙ ap verdictOf (rules .broken-exactly rule c .1 (p .1)),
-      );
-    }
+    let m = means given (rules protocol trace) (λ c. granted (trace c)) n in
+    record { judged = m; open-exactly = (open-means protocol given trace n _ m, means-open protocol given trace n _ m) }

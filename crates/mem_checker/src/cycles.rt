@@ -1,12 +1,11 @@
 // The loop that judges a trace, for both protocols.
 ghost use mathlib.Core.Path.{_≡_};
-ghost use mathlib.Core.Bool.{cond, false};
 ghost use Prim.Native.Nat.{_≤_};
 ghost use lib.ListN.{length};
 ghost use Rattle.signals.specs.Refusals.{maxCycles};
 ghost use Rattle.signals.specs.Memory.{accessAt};
-ghost use Rattle.mem_checker.specs.Rules.{mem, memDecoupled};
-ghost use Rattle.mem_checker.specs.Verdicts.{judged};
+ghost use Rattle.mem_checker.specs.Written.{written};
+ghost use Rattle.mem_checker.specs.Step.{protocolOf, unrefused, brokenAt};
 use crate::Checked;
 use crate::Rule;
 use crate::Verdict;
@@ -17,14 +16,9 @@ use crate::watch::own_rule;
 // The verdict on a trace of legal length, which stops at the first breach.
 pub(crate) fn check(control: &[u8], add: &[u32], decoupled: bool) -> Checked
     requires { ⌜ (length (now add) ≡ length (now control)) × (length (now control) ≤ maxCycles) ⌝ }
-    ensures { λ r. ⌜ r ≡ judged (cond decoupled memDecoupled mem) (accessAt (now (control .entry)) (now (add .entry))) (length (now (control .entry))) ⌝ }
+    ensures { λ r. ⌜ written r ≡ unrefused (protocolOf decoupled) (accessAt (now (control .entry)) (now (add .entry))) (length (now (control .entry))) ⌝ }
 {
-    let mut w = Watch {
-        reading: false,
-        shaken: false,
-        direction: false,
-        handshakes: 0,
-    };
+    let mut w = Watch::start();
     let mut i = 0;
     while i < control.len() {
         let c = control[i];
@@ -46,7 +40,7 @@ pub(crate) fn check(control: &[u8], add: &[u32], decoupled: bool) -> Checked
 }
 
 fn broken(rule: Rule, cycle: u32, handshakes: u32) -> Checked
-    ensures { λ r. ⌜ r ≡ record { verdict = Verdict.Broken rule cycle; handshakes = handshakes; «open» = false } ⌝ }
+    ensures { λ r. ⌜ r ≡ brokenAt rule cycle handshakes ⌝ }
 {
     Checked {
         verdict: Verdict::Broken(rule, cycle),

@@ -5,10 +5,12 @@ mod watch; // watch.rt: what the rules remember of the cycles before
 mod cycles; // cycles.rt: the loop that judges a trace, for both protocols
 
 ghost use mathlib.Core.Path.{_≡_};
-ghost use mathlib.Core.Bool.{cond, false};
+ghost use mathlib.Core.Bool.{false};
 ghost use lib.ListN.{length};
 ghost use Rattle.mem_checker.specs.Rules.{mem, memDecoupled};
 ghost use Rattle.mem_checker.specs.Verdicts.{checkMem};
+ghost use Rattle.mem_checker.specs.Written.{written};
+ghost use Rattle.mem_checker.specs.Step.{protocolOf};
 use signals::MAX_CYCLES;
 use signals::Refusal;
 
@@ -37,21 +39,21 @@ pub struct Checked {
 
 // The verdict on an HWPE-Mem trace, for any four sequences.
 pub fn check_mem(control: &[u8], add: &[u32], data: &[u32], r_data: &[u32]) -> Checked
-    ensures { λ r. ⌜ r ≡ checkMem mem (now (control .entry)) (now (add .entry)) (length (now («data» .entry))) (length (now («r_data» .entry))) ⌝ }
+    ensures { λ r. ⌜ written r ≡ checkMem mem (now (control .entry)) (now (add .entry)) (length (now («data» .entry))) (length (now («r_data» .entry))) ⌝ }
 {
     check_lent(control, add, data, r_data, false)
 }
 
 // The verdict on an HWPE-MemDecoupled trace, for any four sequences.
 pub fn check_mem_decoupled(control: &[u8], add: &[u32], data: &[u32], r_data: &[u32]) -> Checked
-    ensures { λ r. ⌜ r ≡ checkMem memDecoupled (now (control .entry)) (now (add .entry)) (length (now («data» .entry))) (length (now («r_data» .entry))) ⌝ }
+    ensures { λ r. ⌜ written r ≡ checkMem memDecoupled (now (control .entry)) (now (add .entry)) (length (now («data» .entry))) (length (now («r_data» .entry))) ⌝ }
 {
     check_lent(control, add, data, r_data, true)
 }
 
 // The refusals 1 and 3, then the verdict.
 fn check_lent(control: &[u8], add: &[u32], data: &[u32], r_data: &[u32], decoupled: bool) -> Checked
-    ensures { λ r. ⌜ r ≡ checkMem (cond decoupled memDecoupled mem) (now (control .entry)) (now (add .entry)) (length (now («data» .entry))) (length (now («r_data» .entry))) ⌝ }
+    ensures { λ r. ⌜ written r ≡ checkMem (protocolOf decoupled) (now (control .entry)) (now (add .entry)) (length (now («data» .entry))) (length (now («r_data» .entry))) ⌝ }
 {
     let cycles = control.len();
     if (add.len() == cycles) & ((data.len() == cycles) & (r_data.len() == cycles)) {

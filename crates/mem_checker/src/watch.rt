@@ -1,11 +1,10 @@
 // What the rules remember of the cycles before, and what they say of one cycle more.
 ghost use mathlib.Core.Path.{_≡_};
-ghost use mathlib.Core.Bool.{cond, not, _&&_};
-ghost use mathlib.Core.Option.{none, some};
-ghost use Prim.Native.Nat.{_+_, _<_};
+ghost use Prim.Native.Nat.{_<_};
 ghost use Rattle.signals.specs.Refusals.{maxCycles};
 ghost use Rattle.signals.specs.Memory.{access, granted};
-ghost use Rattle.mem_checker.specs.Rules.{readHandshake, orWenOf, differs, breaksAlign};
+ghost use Rattle.mem_checker.specs.Rules.{breaksAlign};
+ghost use Rattle.mem_checker.specs.Step.{ownRule, start, breaksResponse, breaksDirection, breaksOwn, firstWenWith, next};
 use crate::Rule;
 use signals::memory::gnt;
 use signals::memory::r_valid;
@@ -22,9 +21,21 @@ pub(crate) struct Watch {
 }
 
 impl Watch {
+    // No read is to be answered, and there was no handshake.
+    pub(crate) fn start() -> Watch
+        ensures { λ r. ⌜ r ≡ start ⌝ }
+    {
+        Watch {
+            reading: false,
+            shaken: false,
+            direction: false,
+            handshakes: 0,
+        }
+    }
+
     // HWPE-Mem rule 2: a read handshake stands before this cycle, which has r_valid 0.
     fn breaks_response(self, control: u8) -> bool
-        ensures { λ r. ⌜ r ≡ (self .reading && not (access control 0 .rValid)) ⌝ }
+        ensures { λ r. ⌜ r ≡ breaksResponse self (access control 0) ⌝ }
     {
         let reading = self.reading;
         reading & !r_valid(control)
@@ -32,16 +43,14 @@ impl Watch {
 
     // HWPE-MemDecoupled rule 4: this cycle is a handshake, with another wen than the first.
     fn breaks_direction(self, control: u8) -> bool
-        ensures { λ r. ⌜ r ≡ (granted (access control 0) && differs (cond (self .shaken) (some (self .direction)) none) (access control 0 .wen)) ⌝ }
+        ensures { λ r. ⌜ r ≡ breaksDirection self (access control 0) ⌝ }
     {
         handshake(control) & (self.shaken & (wen(control) != self.direction))
     }
 
     // The rule that the protocol has for itself: 4 if it is decoupled, else 2.
     pub(crate) fn breaks_own(self, control: u8, decoupled: bool) -> bool
-        ensures { λ r. ⌜ r ≡ cond decoupled
-            (granted (access control 0) && differs (cond (self .shaken) (some (self .direction)) none) (access control 0 .wen))
-            (self .reading && not (access control 0 .rValid)) ⌝ }
+        ensures { λ r. ⌜ r ≡ breaksOwn self decoupled (access control 0) ⌝ }
     {
         if decoupled {
             self.breaks_direction(control)
@@ -52,7 +61,7 @@ impl Watch {
 
     // The wen of the first handshake, where this cycle is one.
     fn first_wen(self, control: u8) -> bool
-        ensures { λ r. ⌜ r ≡ cond (self .shaken) (self .direction) (access control 0 .wen) ⌝ }
+        ensures { λ r. ⌜ r ≡ firstWenWith self (access control 0) ⌝ }
     {
         if self.shaken {
             self.direction
@@ -64,9 +73,7 @@ impl Watch {
     // The watch after a cycle more.
     pub(crate) fn next(self, control: u8) -> Watch
         requires { ⌜ self .handshakes < maxCycles ⌝ }
-        ensures reading { λ r. ⌜ r .reading ≡ readHandshake (access control 0) ⌝ }
-        ensures direction { λ r. ⌜ cond (r .shaken) (some (r .direction)) none ≡ orWenOf (cond (self .shaken) (some (self .direction)) none) (access control 0) ⌝ }
-        ensures handshakes { λ r. ⌜ r .handshakes ≡ self .handshakes + cond (granted (access control 0)) 1 0 ⌝ }
+        ensures { λ r. ⌜ r ≡ next self (access control 0) ⌝ }
     {
         if handshake(control) {
             let count = self.handshakes + 1;
@@ -94,7 +101,7 @@ fn handshake(control: u8) -> bool
 
 // The rule that `breaks_own` looks at.
 pub(crate) fn own_rule(decoupled: bool) -> Rule
-    ensures { λ r. ⌜ r ≡ cond decoupled Rule.Direction Rule.Response ⌝ }
+    ensures { λ r. ⌜ r ≡ ownRule decoupled ⌝ }
 {
     if decoupled {
         Rule::Direction

@@ -1,4 +1,4 @@
--- `mem_checker::check_lent` meets its contract: its tests are those of `due`, in the same order. Assumes nothing.
+-- `mem_checker::check_lent` meets its contract: its tests are those of `grounds`, in the same order. Assumes nothing.
 use Rattle.mem_checker.specs.Verdicts.{checkMem}
 use mathlib.Core.Bool.{_&&_}
 use borrow.Author.Tests.{eqb-true, lt-ltb, le-ltb}
@@ -15,7 +15,7 @@ refused-requires c κs = search needs
 
 returns : tie.Need-returns
 unfolding checkMem
-returns c = rw (c .before .before .if1 .taken, lt-ltb _ _ (c .before .if2 .taken)) (c .refused .ensures)
+returns c = rw (c .refused .ensures, c .before .before .if1 .taken, lt-ltb _ _ (c .before .if2 .taken))
 
 check-requires : tie.Need-check-requires
 check-requires c κs =
@@ -33,7 +33,7 @@ refused-requires-2 c κs = search needs
 
 returns-3 : tie.Need-returns-3
 unfolding checkMem
-returns-3 c = rw (c .before .if1 .left) (c .refused2 .ensures)
+returns-3 c = rw (c .refused2 .ensures, c .before .if1 .left)
 
 pub check-lent-spec : {M : Type 1} → statement M
 check-lent-spec =

@@ -1,13 +1,13 @@
 -- `mem_checker::cycles::check` meets its contract. The invariant: the watch follows the trace up to cycle `i` (`Follows`),
 -- which `Watching` keeps over a turn and turns into the answer at each return. Assumes nothing.
 use Prim.Native.Nat.{_≤_, _<_, _-_}
-use mathlib.Core.Path.{_≡_, refl, sym, _∙_}
+use mathlib.Core.Path.{_≡_, sym, _∙_}
 use native.Mathlib.Omega.{arith}
 use borrow.Author.Needs.{needs}
 use denote.Ref.{now}
-use lib.ListN.{length, getD}
+use lib.ListN.{length}
 use Rattle.signals.specs.Memory.{accessAt}
-use Rattle.mem_checker.proofs.Watching.{Follows, goes-any, handshakes-le, own-broken, align-broken, follows-next, clean-at-end}
+use Rattle.mem_checker.proofs.Watching.{Follows, follows-start, handshakes-le, own-broken, align-broken, follows-next, clean-at-end}
 use Rattle.mem_checker.proofs.cycles.check.Statement.{statement}
 use Rattle.mem_checker.proofs.cycles.check.Tie as tie
 
@@ -17,8 +17,11 @@ Inv-loop control add decoupled w₀ i₀ w i = (i ≤ length control) × Follows
 abbrev μ-loop : tie.MeasureT-loop
 μ-loop control add decoupled w₀ i₀ w i = length control - i
 
+start-requires : tie.Need-start-requires Inv-loop μ-loop
+start-requires c κs = search needs
+
 loop-holds : tie.Need-loop-holds Inv-loop μ-loop
-loop-holds c = (omega arith, record { so-far = refl; reading = refl; direction = refl; counted = refl })
+loop-holds c = (omega arith, rw (c .start .ensures) (follows-start _ _))
 
 shared-slice-read-c : tie.Need-shared-slice-read-c Inv-loop μ-loop
 shared-slice-read-c c = omega arith
@@ -44,9 +47,9 @@ broken-requires c κs = search needs
 returns : tie.Need-returns Inv-loop μ-loop
 returns c =
     let l = c .before .before .before .before .before .before .before .loop in
-    let inside : l .i < length (now (c .before .before .before .before .before .before .before .before .before .before .args .control)) = omega arith in
+    let inside : l .i < length (now (c .before .before .before .before .before .before .before .before .before .before .before .args .control)) = omega arith in
     let own = sym (c .before .before .before .breaks-own .ensures) ∙ c .before .before .if1 .taken in
-    c .broken .ensures ∙ rw (c .before .own-rule .ensures) (own-broken _ _ (l .i) (l .w) (l .inv .1) _ inside own)
+    rw (c .broken .ensures, c .before .own-rule .ensures) (own-broken _ _ (l .i) (l .w) (l .inv .1) _ inside own)
 
 breaks-align-requires : tie.Need-breaks-align-requires Inv-loop μ-loop
 breaks-align-requires c κs = search needs
@@ -60,10 +63,10 @@ broken-requires-2 c κs = search needs
 returns-2 : tie.Need-returns-2 Inv-loop μ-loop
 returns-2 c =
     let l = c .before .before .before .before .before .before .before .before .loop in
-    let inside : l .i < length (now (c .before .before .before .before .before .before .before .before .before .before .before .args .control)) = omega arith in
+    let inside : l .i < length (now (c .before .before .before .before .before .before .before .before .before .before .before .before .args .control)) = omega arith in
     let own = sym (c .before .before .before .before .breaks-own .ensures) ∙ c .before .before .before .if1 .left in
     let align = sym (c .before .before .breaks-align .ensures) ∙ c .before .if2 .taken in
-    c .broken2 .ensures ∙ align-broken _ _ (l .i) (l .w) (l .inv .1) _ inside own align
+    rw (c .broken2 .ensures) (align-broken _ _ (l .i) (l .w) (l .inv .1) _ inside own align)
 
 next-requires : tie.Need-next-requires Inv-loop μ-loop
 next-requires c κs =
@@ -79,16 +82,14 @@ loop-less c = omega arith
 loop-again : tie.Need-loop-again Inv-loop μ-loop
 loop-again c =
     let l = c .before .before .before .before .before .before .before .before .loop in
-    let a = c .before .before .before .before .before .before .before .before .before .before .before .args in
     let own = sym (c .before .before .before .before .breaks-own .ensures) ∙ c .before .before .before .if1 .left in
     let align = sym (c .before .before .breaks-align .ensures) ∙ c .before .if2 .left in
-    let goes = goes-any (l .w) (c .next .result) (getD (now (a .control)) (l .i) 0) (getD (now (a .add)) (l .i) 0) (c .next .ensures) in
-    (omega arith, follows-next _ _ (l .i) (l .w) (l .inv .1) (c .next .result) own align goes)
+    (omega arith, rw (c .next .ensures) (follows-next _ _ (l .i) (l .w) (l .inv .1) own align))
 
 returns-3 : tie.Need-returns-3 Inv-loop μ-loop
 returns-3 c =
     let l = c .before .before .loop in
-    let end : l .i ≡ length (now (c .before .before .before .before .before .args .control)) = omega arith in
+    let end : l .i ≡ length (now (c .before .before .before .before .before .before .args .control)) = omega arith in
     clean-at-end _ _ (l .i) (l .w) (l .inv .1) _ end
 
 pub check-spec : {M : Type 1} → statement M
@@ -97,6 +98,7 @@ check-spec =
     (tie.spec
     Inv-loop
     μ-loop
+    start-requires
     loop-holds
     shared-slice-read-c
     mul-a

@@ -1,7 +1,4 @@
--- `mem_checker::watch::Watch::breaks_direction` meets its contract: it reads the first handshake's wen off the watch.
--- Assumes nothing.
-use Rattle.signals.specs.Memory.{wenBit}
-use Rattle.mem_checker.proofs.Watching.{differs-is}
+-- `mem_checker::watch::Watch::breaks_direction` meets its contract, from what `handshake` and `wen` ensure. Assumes nothing.
 use borrow.Author.Needs.{needs}
 use Rattle.mem_checker.proofs.watch.Watch.breaks_direction.Statement.{statement}
 use Rattle.mem_checker.proofs.watch.Watch.breaks_direction.Tie as tie
@@ -13,9 +10,7 @@ wen-requires : tie.Need-wen-requires
 wen-requires c κs = search needs
 
 returns : tie.Need-returns
-returns c =
-    let a = c .before .before .before .before .args in
-    rw (c .before .before .before .handshake .ensures, c .before .before .wen .ensures, differs-is (a .self .shaken) (a .self .direction) (wenBit (a .control)))
+returns c = rw (c .before .before .before .handshake .ensures, c .before .before .wen .ensures)
 
 pub breaks-direction-spec : {M : Type 1} → statement M
 breaks-direction-spec = tie.close (tie.spec handshake-requires wen-requires returns)

@@ -1,8 +1,6 @@
 -- `mem_checker::watch::Watch::next` meets its contract: by whether the cycle is a handshake. Assumes nothing.
 use mathlib.Core.Path.{sym, _∙_}
-use native.Mathlib.Omega.{arith}
-use Rattle.signals.specs.Memory.{access}
-use Rattle.mem_checker.proofs.Watching.{first-kept, none-kept}
+use native.Mathlib.Nat.{add-zero}
 use borrow.Author.Needs.{needs}
 use Rattle.mem_checker.proofs.watch.Watch.next.Statement.{statement}
 use Rattle.mem_checker.proofs.watch.Watch.next.Tie as tie
@@ -21,15 +19,11 @@ first-wen-requires c κs = search needs
 
 returns : tie.Need-returns
 returns c =
-    let g = sym (c .before .before .before .before .handshake .ensures) ∙ c .before .before .before .if1 .taken in
-    let a = c .before .before .before .before .before .args in
-    (rw g (c .before .wen .ensures), (rw (c .first-wen .ensures) (first-kept (a .self .shaken) (a .self .direction) (access (a .control) 0) g), rw g))
+    let shakes = sym (c .before .before .before .before .handshake .ensures) ∙ c .before .before .before .if1 .taken in
+    rw (c .before .wen .ensures, c .first-wen .ensures, shakes)
 
 returns-2 : tie.Need-returns-2
-returns-2 c =
-    let g = sym (c .before .handshake .ensures) ∙ c .if1 .left in
-    let a = c .before .before .args in
-    (rw g, (none-kept (a .self .shaken) (a .self .direction) (access (a .control) 0) g, rw g (omega arith)))
+returns-2 c = rw (sym (c .before .handshake .ensures) ∙ c .if1 .left, add-zero)
 
 pub next-spec : {M : Type 1} → statement M
 next-spec =
