@@ -28,6 +28,7 @@ abbrev pub firstWen : (ℕ → Access) → ℕ → Option Bool
 firstWen trace zero = none
 firstWen trace (suc c) = orWenOf (firstWen trace c) (trace c)
 
+-- another wen than the first handshake's, if there was one
 abbrev pub differs : Option Bool → Bool → Bool
 differs none wen = false
 differs (some first) wen = not (Bool·beq wen first)

@@ -9,16 +9,19 @@ use Rattle.mem_checker.specs.declared.Verdict.the-variants.{Clean, Broke
 use Rattle.mem_checker.specs.declared.Checked.{Checked}
 use Rattle.mem_checker.specs.Verdicts.{Answer}
 
+-- the rule's number or name
 abbrev pub ruleName : Rule → RuleName
 ruleName Response = number 2
 ruleName Direction = number 4
 ruleName Align = align
 
+-- clean, broken with a rule and a cycle, or refused with a number
 abbrev pub writtenVerdict : Verdict → Written
 writtenVerdict Clean = judged clean
 writtenVerdict (Broken rule c) = judged (broken (ruleName rule) c)
 writtenVerdict (Refused why) = refused (numberOf why)
 
+-- the verdict, and beside it the count and whether the trace is open
 abbrev pub written : Checked → Answer
 written checked =
     record {
