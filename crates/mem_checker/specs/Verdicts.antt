@@ -12,12 +12,12 @@ use Rattle.signals.specs.Judging.{clean, broken}
 use Rattle.signals.specs.Written.{Written, judged, refused, Judgement, judgement, unlessRefused}
 use Rattle.mem_checker.specs.Rules.{Protocol, mem, memDecoupled, rules, readHandshake}
 
--- when a call is refused, by the four lengths
+-- the grounds for refusing a trace, by its four lengths, in the order in which they are tried
 abbrev pub grounds : (controls adds datas rDatas : ℕ) → List (Row ℕ)
 grounds controls adds datas rDatas =
-    1 ⇐ not (eqb adds controls && (eqb datas controls && eqb rDatas controls)) ∷
-    3 ⇐ ltb maxCycles controls ∷
-    []
+    1 ⇐ not (eqb adds controls && (eqb datas controls && eqb rDatas controls))
+    ∷ 3 ⇐ ltb maxCycles controls
+    ∷ []
 
 -- the verdict on the first n cycles of a trace, and the count
 abbrev pub judgedBy : Protocol → (ℕ → Access) → ℕ → Judgement

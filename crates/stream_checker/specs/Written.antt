@@ -13,10 +13,10 @@ ruleName Held = number 4
 ruleName Stable = number 2
 ruleName Seq = seq
 
-abbrev pub verdictWritten : Verdict → Written
-verdictWritten Clean = judged clean
-verdictWritten (Broken rule c) = judged (broken (ruleName rule) c)
-verdictWritten (Refused why) = refused (numberOf why)
+abbrev pub writtenVerdict : Verdict → Written
+writtenVerdict Clean = judged clean
+writtenVerdict (Broken rule c) = judged (broken (ruleName rule) c)
+writtenVerdict (Refused why) = refused (numberOf why)
 
 abbrev pub written : Checked → Judgement
-written checked = record { verdict = verdictWritten (checked .verdict); handshakes = checked .handshakes }
+written checked = record { verdict = writtenVerdict (checked .verdict); handshakes = checked .handshakes }
