@@ -1,13 +1,13 @@
 -- What is delivered is copied if it fits, and else the output is left. Assumes nothing.
 use mathlib.Core.Path.{_≡_, refl, sym, ap, _∙_}
 use mathlib.Core.Bool.{Bool, true, false, cond}
-use mathlib.Core.List.{List, [], _∷_}
+use mathlib.Core.List.{List, [], _∷_, _++_}
 use Prim.Native.Nat.{ℕ, _<_, _≤_}
 use native.Mathlib.Nat.{zero-add}
 use native.Mathlib.Omega.{arith}
 use borrow.Author.Tests.{lt-ltb, le-ltb, ltb-false}
 use lib.Dec.{ltb}
-use lib.ListN.{length, take, length-take}
+use lib.ListN.{length, take, drop, length-take, length-append}
 use Rattle.signals.specs.declared.Refusal.the-variants.{OutputTooShort}
 use Rattle.signals.specs.declared.Outcome.the-variants.{Accepted, Refused}
 use Rattle.signals.specs.Tables.{_⇐_, firstOf}
@@ -45,3 +45,13 @@ count-within {given} {out} {exit} {r} p = rw (p .count) (of (length given) (leng
     of : (m n : ℕ) (b : Bool) → ltb n m ≡ b → cond (accepts (firstOf (7 ⇐ b ∷ []))) m 0 ≤ n
     of m n true e = omega arith
     of m n false e = ltb-false n m e
+
+-- and within what the output holds afterwards
+pub count-inside : {given out exit : List ℕ} {r : Reported} → Delivers given out r exit → r .count ≤ length exit
+count-inside {given} {out} {exit} {r} p = rw (p .count, p .writes) (of (ltb (length out) (length given)))
+  where
+    of : (b : Bool) →
+        cond (accepts (firstOf (7 ⇐ b ∷ []))) (length given) 0
+        ≤ length (cond (accepts (firstOf (7 ⇐ b ∷ []))) (given ++ drop (length given) out) out)
+    of true = omega arith
+    of false = simp length-append (omega arith)
