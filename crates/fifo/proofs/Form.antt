@@ -10,7 +10,7 @@ use borrow.Author.Tests.{lt-ltb, le-leb, leb-true, ltb-true}
 use lib.Dec.{ltb}
 use lib.ListN.{length, set}
 use Rattle.signals.specs.declared.Payload.{Payload}
-use Rattle.signals.proofs.Bools.{both}
+use Rattle.signals.proofs.Bools.{both, clash}
 use Rattle.fifo.specs.declared.Fifo.{Fifo}
 use Rattle.fifo.specs.Queue.{Queue, ill, well, readyOf, capacity, maxDepth, legalDepth, empty, ready, rest, isAny, oldest, shown, when, next}
 use Rattle.fifo.specs.Ring.{ring, wrapped, queueOf, inRange, trusted}
@@ -93,7 +93,7 @@ trusted-well f q e = by-test (inRange f) (queueOf f) e
   where
     by-test : (b : Bool) (r : Queue) → cond b (well r) ill ≡ well q → (b ≡ true) × (r ≡ q)
     by-test true r e = (refl, (cc))
-    by-test false r e = absurd (let z : _≡_ {A = ℕ} 0 1 = cc in omega arith)
+    by-test false r e = absurd (clash cc)
 
 -- nothing is held, wherever the next is to lie
 pub count-0-empty : (depth oldest : ℕ) (slots : List Payload) → legalDepth depth ≡ true → oldest < depth

@@ -1,19 +1,21 @@
 -- What a user of `step_trusted` knows of a FIFO that was looked at once (`value f ≡ well q`): it goes on having its whole
 -- form, since legal strobes stay legal, so the step's promise over the numbers is the one over the value. Assumes nothing.
+use Prim.Native.Nat.{ℕ}
 use mathlib.Core.Bool.{Bool, true, false, cond, false≢true}
 use mathlib.Core.List.{List, [], _∷_}
 use mathlib.Core.Logic.{⊎-elim}
+use mathlib.Core.Option.{Option, some}
 use mathlib.Core.Path.{_≡_, refl, sym, ap, _∙_}
 use Rattle.signals.specs.declared.Payload.{Payload}
 use Rattle.signals.specs.declared.Refusal.{Refusal}
-use Rattle.signals.specs.declared.Refusal.the-variants.{IllegalBits, BadState}
 use Rattle.signals.specs.declared.Outcome.the-variants.{Refused}
-use Rattle.signals.specs.Refusals.{accepts}
+use Rattle.signals.specs.Refusals.{numberOf, refusalOf, accepts}
+use Rattle.signals.specs.Tables.{firstOf}
 use Rattle.signals.specs.Payloads.{zeros, legalStrb}
 use Rattle.signals.proofs.Bools.{either}
 use Rattle.fifo.specs.declared.Fifo.{Fifo}
 use Rattle.fifo.specs.declared.Stepped.{Stepped}
-use Rattle.fifo.specs.Queue.{Queue, Value, ill, well, readyOf, Answer, refused, cleared, cycled, stepOf, when, isAny, oldest, shown, shownAs, ready, next, emptied, legalStrbs}
+use Rattle.fifo.specs.Queue.{Queue, Value, well, readyOf, Answer, refused, cleared, cycled, stepGrounds, stepBy, stepOf, when, isAny, oldest, shown, shownAs, ready, next, emptied, legalStrbs}
 use Rattle.fifo.specs.Ring.{trusted, value, strobesChecked}
 use Rattle.fifo.specs.Promises.{Steps, answered}
 use Rattle.fifo.proofs.Strobes.{legal-one, legal-when, shown-payload-legal, next-legal, empty-legal, checked-legal, trusted-of-value}
@@ -30,24 +32,23 @@ shown-offered q = of-held (q .held)
 pub ready-of-value : (f : Fifo) (q : Queue) → value f ≡ well q → readyOf (trusted f) ≡ ready q
 ready-of-value f q e = ap readyOf (trusted-of-value f q e .0)
 
+-- a step that is not refused, and one that is
 pub step-legal : (q : Queue) (offer sink clear : Bool) (p : Payload) → legalStrb p ≡ true → stepOf (well q) offer p sink clear ≡ cond clear (cleared q) (cycled q (when offer (p ∷ [])) sink)
 unfolding stepOf
 step-legal q offer sink clear p a = rw a
 
-pub step-illegal : (q : Queue) (offer sink clear : Bool) (p : Payload) → legalStrb p ≡ false → stepOf (well q) offer p sink clear ≡ refused IllegalBits (well q)
+step-refused : (v : Value) (offer sink clear : Bool) (p : Payload) (number : ℕ) → firstOf (stepGrounds v p) ≡ some number
+    → stepOf v offer p sink clear ≡ refused number v
 unfolding stepOf
-step-illegal q offer sink clear p a = rw a
+step-refused v offer sink clear p number e = ap (λ (o : Option ℕ). stepBy o v offer p sink clear) e
 
-pub step-ill : (offer sink clear : Bool) (p : Payload) → stepOf ill offer p sink clear ≡ refused BadState ill
-unfolding stepOf
-step-ill offer sink clear p = refl
-
--- the code's refusal is the rule's
+-- the code's refusal is the rule's where its number is the one that is given
 pub refusal-steps : (valueOf : Fifo → Value) (f : Fifo) (offer sink clear : Bool) (p : Payload) (why : Refusal) (r : Stepped)
-    → stepOf (valueOf f) offer p sink clear ≡ refused why (valueOf f)
+    → firstOf (stepGrounds (valueOf f) p) ≡ some (numberOf why)
     → r ≡ record { outcome = Refused why; ready = false; valid = false; payload = zeros; next = f }
     → Steps valueOf f offer p sink clear r
-refusal-steps valueOf f offer sink clear p why r rule e = rw e (record { answer = sym rule; kept = λ _. refl })
+refusal-steps valueOf f offer sink clear p why r given e =
+    rw e (record { answer = sym (step-refused (valueOf f) offer sink clear p (numberOf why) given); kept = λ _. refl })
 
 -- and so is its cycle
 pub cycle-steps : (f : Fifo) (q : Queue) (offer sink clear : Bool) (p : Payload) (r : Stepped)
@@ -57,10 +58,10 @@ pub cycle-steps : (f : Fifo) (q : Queue) (offer sink clear : Bool) (p : Payload)
 cycle-steps f q offer sink clear p r e legal cycle =
     record {
       answer = cycle ∙ sym (ap (λ (v : Value). stepOf v offer p sink clear) e ∙ step-legal q offer sink clear p legal);
-      kept = λ n. absurd (false≢true (sym n ∙ ap (λ (a : Answer). accepts (a .outcome)) cycle ∙ accepted clear));
+      kept = λ n. absurd (false≢true (sym n ∙ ap (λ (a : Answer). accepts (a .refusal)) cycle ∙ accepted clear));
     }
   where
-    accepted : (c : Bool) → accepts (cond c (cleared q) (cycled q (when offer (p ∷ [])) sink) .outcome) ≡ true
+    accepted : (c : Bool) → accepts (cond c (cleared q) (cycled q (when offer (p ∷ [])) sink) .refusal) ≡ true
     accepted true = refl
     accepted false = refl
 
@@ -70,10 +71,9 @@ record Legal (a : Answer) : Type 0 where
   next : strobesChecked (a .next) ≡ a .next
 
 answer-legal : (q : Queue) (offer sink clear : Bool) (p : Payload) → legalStrbs (q .held) ≡ true → Legal (stepOf (well q) offer p sink clear)
+unfolding stepOf
 answer-legal q offer sink clear p a =
-    ⊎-elim (λ e. rw (step-legal q offer sink clear p e) (by-clear e clear))
-    (λ e. rw (step-illegal q offer sink clear p e) (record { payload = refl; next = checked-legal q a }))
-    (either (legalStrb p))
+    ⊎-elim (λ e. rw e (by-clear e clear)) (λ e. rw e (record { payload = refl; next = checked-legal q a })) (either (legalStrb p))
   where
     by-clear : legalStrb p ≡ true → (c : Bool) → Legal (cond c (cleared q) (cycled q (when offer (p ∷ [])) sink))
     by-clear e true = record { payload = refl; next = checked-legal (emptied q) empty-legal }
@@ -110,7 +110,7 @@ module _ (f : Fifo) (q : Queue) (offer : Bool) (p : Payload) (sink clear : Bool)
 
 -- a step's answer, part by part
 pub record Answers (r : Stepped) (a : Answer) : Type 0 where
-  pub outcome : r .outcome ≡ a .outcome
+  pub refusal : refusalOf (r .outcome) ≡ a .refusal
   pub ready : r .ready ≡ a .ready
   pub valid : r .valid ≡ a .valid
   pub payload : r .payload ≡ a .payload
@@ -119,7 +119,7 @@ pub record Answers (r : Stepped) (a : Answer) : Type 0 where
 pub answers : (r : Stepped) (a : Answer) → answered value r ≡ a → Answers r a
 answers r a e =
     record {
-      outcome = ap (λ (x : Answer). x .outcome) e;
+      refusal = ap (λ (x : Answer). x .refusal) e;
       ready = ap (λ (x : Answer). x .ready) e;
       valid = ap (λ (x : Answer). x .valid) e;
       payload = ap (λ (x : Answer). x .payload) e;

@@ -1,13 +1,11 @@
 -- Legal strobes stay legal: what a queue shows is one of its own, and a cycle's queue has only its own and what was offered.
 -- So a FIFO that is trusted after a step of one that was looked at has its whole form. Assumes nothing.
-use Prim.Native.Nat.{ℕ}
-use native.Mathlib.Omega.{arith}
 use mathlib.Core.Bool.{Bool, true, false, cond, false≢true}
 use mathlib.Core.List.{List, [], _∷_, _++_}
 use mathlib.Core.Path.{_≡_, refl, sym, ap, _∙_}
 use Rattle.signals.specs.declared.Payload.{Payload}
 use Rattle.signals.specs.Payloads.{legalStrb}
-use Rattle.signals.proofs.Bools.{both}
+use Rattle.signals.proofs.Bools.{both, clash}
 use Rattle.fifo.specs.declared.Fifo.{Fifo}
 use Rattle.fifo.specs.Queue.{Queue, Value, ill, well, isWell, when, rest, oldest, shown, shownAs, ready, next, legalStrbs}
 use Rattle.fifo.specs.Ring.{trusted, value, strobesChecked}
@@ -80,14 +78,10 @@ pub ill-value : (f : Fifo) → trusted f ≡ ill → value f ≡ ill
 unfolding value
 ill-value f e = ap strobesChecked e
 
--- a value is a queue or not
+-- a value of its form is a queue
 pub well-queue : (v : Value) → isWell v ≡ true → (q : Queue) × (v ≡ well q)
 well-queue ill e = absurd (false≢true e)
 well-queue (well q) e = (q, refl)
-
-pub not-well-ill : (v : Value) → isWell v ≡ false → v ≡ ill
-not-well-ill ill e = refl
-not-well-ill (well q) e = absurd (false≢true (sym e))
 
 -- a value is one by the numbers whose strobes are legal
 pub trusted-of-value : (f : Fifo) (q : Queue) → value f ≡ well q → (trusted f ≡ well q) × (legalStrbs (q .held) ≡ true)
@@ -96,8 +90,8 @@ trusted-of-value f q e = by-value (trusted f) e
   where
     by-test : (b : Bool) (r : Queue) → legalStrbs (r .held) ≡ b → cond b (well r) ill ≡ well q → (well r ≡ well q) × (legalStrbs (q .held) ≡ true)
     by-test true r a e = let same : r ≡ q = cc in (e, ap (λ (s : Queue). legalStrbs (s .held)) (sym same) ∙ a)
-    by-test false r a e = absurd (let z : _≡_ {A = ℕ} 0 1 = cc in omega arith)
+    by-test false r a e = absurd (clash cc)
 
     by-value : (v : Value) → strobesChecked v ≡ well q → (v ≡ well q) × (legalStrbs (q .held) ≡ true)
-    by-value ill e = absurd (let z : _≡_ {A = ℕ} 0 1 = cc in omega arith)
+    by-value ill e = absurd (clash cc)
     by-value (well r) e = by-test (legalStrbs (r .held)) r refl e

@@ -1,15 +1,15 @@
--- Document 01, "The stage and the line": a FIFO's value and its rule of one cycle. A FIFO is document 01's stage. Assumes nothing.
+-- Document 01, "The stage and the line" and "Refusal numbers": a FIFO's value, its rule of one cycle, and what is refused.
+-- A FIFO is document 01's stage. Assumes nothing.
 use Prim.Native.Nat.{ℕ, _%_}
-use mathlib.Core.Bool.{Bool, true, false, cond, _&&_}
+use mathlib.Core.Bool.{Bool, true, false, cond, not, _&&_}
 use mathlib.Core.List.{List, [], _∷_, _++_}
+use mathlib.Core.Option.{Option, none, some}
 use lib.ListN.{length}
 use lib.Dec.{eqb, leb, ltb}
 use Rattle.signals.specs.declared.Payload.{Payload}
-use Rattle.signals.specs.declared.Refusal.{Refusal}
-use Rattle.signals.specs.declared.Refusal.the-variants.{IllegalBits, BadDepth, BadState}
-use Rattle.signals.specs.declared.Outcome.{Outcome}
-use Rattle.signals.specs.declared.Outcome.the-variants.{Accepted, Refused}
 use Rattle.signals.specs.Payloads.{zeros, legalStrb}
+use Rattle.signals.specs.Refusals.{accepts}
+use Rattle.signals.specs.Tables.{Row, _⇐_, firstOf}
 
 -- even, 2 to 16
 abbrev pub maxDepth : ℕ
@@ -80,22 +80,27 @@ abbrev pub readyOf : Value → Bool
 readyOf ill = false
 readyOf (well q) = ready q
 
--- What a step answers, and the value of the FIFO that it hands back.
+-- the queue that it stands for; nothing is held where there is none
+abbrev pub queueIn : Value → Queue
+queueIn ill = empty 0
+queueIn (well q) = q
+
+-- What a step answers, the number of its refusal if it is refused, and the value of the FIFO that it hands back.
 pub record Answer : Type 0 where
-  pub outcome : Outcome
+  pub refusal : Option ℕ
   pub ready : Bool
   pub valid : Bool
   pub payload : Payload
   pub next : Value
 
-abbrev pub refused : Refusal → Value → Answer
-refused why v = record { outcome = Refused why; ready = false; valid = false; payload = zeros; next = v }
+abbrev pub refused : (number : ℕ) → Value → Answer
+refused number v = record { refusal = some number; ready = false; valid = false; payload = zeros; next = v }
 
 -- one cycle with no clear, and one with
 abbrev pub cycled : Queue → List Payload → Bool → Answer
 cycled q offer sink =
     record {
-      outcome = Accepted;
+      refusal = none;
       ready = ready q;
       valid = isAny (shown q);
       payload = shownAs (shown q);
@@ -103,23 +108,27 @@ cycled q offer sink =
     }
 
 abbrev pub cleared : Queue → Answer
-cleared q = record { outcome = Accepted; ready = false; valid = false; payload = zeros; next = well (emptied q) }
+cleared q = record { refusal = none; ready = false; valid = false; payload = zeros; next = well (emptied q) }
 
--- a step of any FIFO: refusals 6, then 2, then the cycle
+-- a step's refusals, in the order in which they are tried
+abbrev pub stepGrounds : Value → Payload → List (Row ℕ)
+stepGrounds v p = 6 ⇐ not (isWell v) ∷ 2 ⇐ not (legalStrb p) ∷ []
+
+-- a step of any FIFO: refused with a number, or else the cycle
+abbrev pub stepBy : (refusal : Option ℕ) → Value → (valid : Bool) → Payload → (sink clear : Bool) → Answer
+stepBy (some number) v valid p sink clear = refused number v
+stepBy none v valid p sink clear = cond clear (cleared (queueIn v)) (cycled (queueIn v) (when valid (p ∷ [])) sink)
+
 unfoldable pub stepOf : Value → (valid : Bool) → Payload → (sink clear : Bool) → Answer
-stepOf ill valid p sink clear = refused BadState ill
-stepOf (well q) valid p sink clear =
-    cond (legalStrb p)
-    (cond clear (cleared q) (cycled q (when valid (p ∷ [])) sink))
-    (refused IllegalBits (well q))
+stepOf v valid p sink clear = stepBy (firstOf (stepGrounds v p)) v valid p sink clear
 
--- a new FIFO: refusal 4, or none
-abbrev pub newOutcome : ℕ → Outcome
-newOutcome depth = cond (legalDepth depth) Accepted (Refused BadDepth)
+-- a new FIFO's refusal
+abbrev pub newGrounds : (depth : ℕ) → List (Row ℕ)
+newGrounds depth = 4 ⇐ not (legalDepth depth) ∷ []
 
 -- what is handed back: empty, and of depth 2 where refused
-abbrev pub newQueue : ℕ → Queue
-newQueue depth = empty (cond (legalDepth depth) depth 2)
+abbrev pub newQueue : (depth : ℕ) → Queue
+newQueue depth = empty (cond (accepts (firstOf (newGrounds depth))) depth 2)
 
 -- each strobe is at most 15
 unfoldable pub legalStrbs : List Payload → Bool

@@ -14,7 +14,7 @@ empty-requires c κs = sym (c .before .is-legal-depth .ensures) ∙ c .if1 .take
 returns : tie.Need-returns
 returns c =
     let legal = sym (c .before .before .is-legal-depth .ensures) ∙ c .before .if1 .taken in
-    record { outcome = rw legal; gives = rw legal (value-of-trusted _ _ (c .empty .ensures) empty-legal) }
+    record { refusal = rw legal; gives = rw legal (value-of-trusted _ _ (c .empty .ensures) empty-legal) }
 
 empty-requires-2 : tie.Need-empty-requires-2
 empty-requires-2 c κs = search needs
@@ -22,7 +22,7 @@ empty-requires-2 c κs = search needs
 returns-2 : tie.Need-returns-2
 returns-2 c =
     let illegal = sym (c .before .before .is-legal-depth .ensures) ∙ c .before .if1 .left in
-    record { outcome = rw illegal; gives = rw illegal (value-of-trusted _ _ (c .empty2 .ensures) empty-legal) }
+    record { refusal = rw illegal; gives = rw illegal (value-of-trusted _ _ (c .empty2 .ensures) empty-legal) }
 
 pub new-spec : {M : Type 1} → statement M
 new-spec =

@@ -3,8 +3,8 @@ use mathlib.Core.Path.{sym, _∙_}
 use borrow.Author.Needs.{needs}
 use Rattle.signals.specs.declared.Refusal.the-variants.{BadState}
 use Rattle.fifo.specs.Ring.{value}
-use Rattle.fifo.proofs.Strobes.{well-queue, not-well-ill}
-use Rattle.fifo.proofs.Stepping.{step-ill, refusal-steps, trusted-steps}
+use Rattle.fifo.proofs.Strobes.{well-queue}
+use Rattle.fifo.proofs.Stepping.{refusal-steps, trusted-steps}
 use Rattle.fifo.proofs.Fifo.step.Statement.{statement}
 use Rattle.fifo.proofs.Fifo.step.Tie as tie
 
@@ -27,8 +27,7 @@ returns-2 : tie.Need-returns-2
 returns-2 c =
     let a = c .before .before .before .args in
     refusal-steps value (a .self) (a .valid) (a .sink) (a .clear) (a .payload) BadState _
-    (rw (not-well-ill (value (a .self)) (sym (c .before .before .is-well .ensures) ∙ c .before .if1 .left))
-    (step-ill (a .valid) (a .sink) (a .clear) (a .payload)))
+    (rw (sym (c .before .before .is-well .ensures) ∙ c .before .if1 .left))
     (c .silent .ensures)
 
 pub step-spec : {M : Type 1} → statement M

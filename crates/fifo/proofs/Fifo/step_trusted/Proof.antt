@@ -1,4 +1,4 @@
--- `Fifo::step_trusted` meets its contract: each return is one case of the rule. Assumes nothing.
+-- `Fifo::step_trusted` meets its contract: each return is one case of the rule, and each refusal is the first that applies. Assumes nothing.
 use mathlib.Core.Path.{_≡_, sym, _∙_}
 use mathlib.Core.Bool.{true, false}
 use borrow.Author.Needs.{needs}
@@ -7,7 +7,7 @@ use Rattle.signals.proofs.Bools.{both}
 use Rattle.signals.specs.declared.Refusal.the-variants.{IllegalBits, BadState}
 use Rattle.fifo.specs.Ring.{inRange, trusted}
 use Rattle.fifo.proofs.Form.{trusted-in, trusted-out}
-use Rattle.fifo.proofs.Stepping.{step-ill, step-illegal, refusal-steps, cycle-steps}
+use Rattle.fifo.proofs.Stepping.{refusal-steps, cycle-steps}
 use Rattle.fifo.proofs.Fifo.step_trusted.Statement.{statement}
 use Rattle.fifo.proofs.Fifo.step_trusted.Tie as tie
 
@@ -40,8 +40,7 @@ returns-2 c =
     let inside : inRange (a .self) ≡ true = sym (formed .ensures) ∙ c .before .if2 .taken in
     let illegal : legalStrb (a .payload) ≡ false = rw (c .before .if2 .taken) at (c .before .before .if1 .left) in
     refusal-steps trusted (a .self) (a .valid) (a .sink) (a .clear) (a .payload) IllegalBits _
-    (rw (trusted-in (a .self) inside)
-    (step-illegal _ (a .valid) (a .sink) (a .clear) (a .payload) illegal))
+    (rw (trusted-in (a .self) inside, illegal))
     (c .silent .ensures)
 
 silent-requires-2 : tie.Need-silent-requires-2
@@ -52,8 +51,7 @@ returns-3 c =
     let a = c .before .before .before .before .before .args in
     let formed = c .before .before .before .before .is-in-range in
     refusal-steps trusted (a .self) (a .valid) (a .sink) (a .clear) (a .payload) BadState _
-    (rw (trusted-out (a .self) (sym (formed .ensures) ∙ c .before .if2 .left))
-    (step-ill (a .valid) (a .sink) (a .clear) (a .payload)))
+    (rw (trusted-out (a .self) (sym (formed .ensures) ∙ c .before .if2 .left)))
     (c .silent2 .ensures)
 
 pub step-trusted-spec : {M : Type 1} → statement M
