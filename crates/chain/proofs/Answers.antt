@@ -1,45 +1,35 @@
 -- What the answers of calls show of the outlet is what the rules give, and no call is refused with 6.
 -- Idea: a step shows one cycle; what a run wrote over its outputs is taken back whole, and reads as the samples that it recorded.
 -- Assumes nothing.
-use Prim.Native.Nat.{ℕ, suc, _+_, _*_, _/_, _%_, _≤_}
+use Prim.Native.Nat.{ℕ, _+_, _*_, _/_, _%_, _≤_}
 use native.Mathlib.Omega.{arith}
-use mathlib.Core.Bool.{Bool, true, false, cond, _&&_, _||_, not}
+use mathlib.Core.Bool.{Bool, true, false, false≢true}
 use mathlib.Core.List.{List, [], _∷_, map}
+use mathlib.Core.Logic.{⊎-elim}
+use mathlib.Core.Option.{Option, none, some}
 use mathlib.Core.Path.{_≡_, refl, _∙_, ap, ap₂}
-use lib.Dec.{eqb, ltb}
+use lib.Dec.{eqb}
 use lib.ListN.{length, take, drop, length-map}
 use lib.Seq.{take-at}
-use borrow.Author.Tests.{eqb-true}
+use borrow.Author.Tests.{eqb-true, not-false}
 use Rattle.signals.specs.declared.Payload.{Payload}
-use Rattle.signals.specs.declared.Refusal.the-variants.{LengthsDiffer, IllegalBits, TooLong, BadState, OutputTooShort}
-use Rattle.signals.specs.declared.Outcome.{Outcome}
-use Rattle.signals.specs.declared.Outcome.the-variants.{Accepted, Refused}
-use Rattle.signals.specs.Refusals.{outcomeNumber, maxCycles, anyOf}
-use Rattle.signals.specs.Payloads.{legalStrb}
-use Rattle.signals.specs.Stream.{sample, reservedBits}
-use Rattle.signals.proofs.Bools.{both}
+use Rattle.signals.specs.Stream.{sample}
+use Rattle.signals.specs.Tables.{Row, firstOf}
+use Rattle.signals.proofs.Bools.{either, both, clash}
+use Rattle.signals.proofs.Tables.{none-keeps}
 use Rattle.fifo.specs.Queue.{Queue}
 use Rattle.chain.specs.Line.{outlet}
 use Rattle.chain.specs.Cycles.{Cycle, offered, after, Outlet, sampleOf, outletIn, outletTrace}
-use Rattle.chain.specs.Calls.{Call, step, run, well, due, recorded, controlByte, dataWord, writtenOver, answer, answerBy}
-use Rattle.chain.specs.Demand3.{cyclesBy, readBack, outletOf, outcomeOf, NoClear}
+use Rattle.chain.specs.Calls.{Call, step, run, well, stepGrounds, runGrounds, grounds, recorded, controlByte, dataWord, writtenOver, answer, answerBy}
+use Rattle.chain.specs.Demand3.{cyclesBy, readBack, outletOf, refusalIn, NoClear}
+use Rattle.chain.proofs.Tracing.{recorded-length, trace-length}
 
--- A run's cycles: as many as its trace has, and no clear.
-recorded-length : (cs ws ss : List ℕ) → length ws ≡ length cs → length ss ≡ length cs → length (recorded cs ws ss) ≡ length cs
-recorded-length [] ws ss h i = refl
-recorded-length (c ∷ cs) [] ss h i = omega arith
-recorded-length (c ∷ cs) (w ∷ ws) [] h i = omega arith
-recorded-length (c ∷ cs) (w ∷ ws) (s ∷ ss) h i = ap suc (recorded-length cs ws ss (omega arith) (omega arith))
-
+-- A run's cycles have no clear.
 recorded-no-clear : (cs ws ss : List ℕ) → NoClear (recorded cs ws ss)
 recorded-no-clear [] ws ss = tt
 recorded-no-clear (c ∷ cs) [] ss = tt
 recorded-no-clear (c ∷ cs) (w ∷ ws) [] = tt
 recorded-no-clear (c ∷ cs) (w ∷ ws) (s ∷ ss) = (refl, recorded-no-clear cs ws ss)
-
-trace-length : (qs : List Queue) (cs : List Cycle) → length (outletTrace qs cs) ≡ length cs
-trace-length qs [] = refl
-trace-length qs (c ∷ cs) = ap suc (trace-length (after qs c) cs)
 
 -- A control byte that was written, read again.
 byte-bits : (ready strb : ℕ) → ready ≤ 1 →
@@ -68,17 +58,12 @@ trace-reads qs (c ∷ cs) n = ap₂ (λ x y. x ∷ y) (outlet-reads qs c (n .0))
 written-taken : (new old : List ℕ) (n : ℕ) → length new ≡ n → take n (writtenOver new old) ≡ new
 written-taken new old n h = take-at new (drop (length new) old) n h
 
--- a run that is not refused was lent sequences of one length
-due-lengths : (b : Bool) (o : Outcome) → cond (not b) (Refused LengthsDiffer) o ≡ Accepted → b ≡ true
-due-lengths true o e = refl
-due-lengths false o e = let z : _≡_ {A = ℕ} 0 1 = cc in absurd (omega arith)
-
--- by what is due
-outlet-by : (qs : List Queue) (call : Call) (o : Outcome) → due true call ≡ o →
+-- by the refusal
+outlet-by : (qs : List Queue) (call : Call) (o : Option ℕ) → firstOf (grounds true call) ≡ o →
     outletOf call (answerBy o (well qs) call) ≡ outletTrace qs (cyclesBy o call)
-outlet-by qs (step valid payload sink clear) Accepted e = refl
-outlet-by qs (step valid payload sink clear) (Refused why) e = refl
-outlet-by qs (run controls words sinks outControls outWords) Accepted e =
+outlet-by qs (step valid payload sink clear) none e = refl
+outlet-by qs (step valid payload sink clear) (some number) e = refl
+outlet-by qs (run controls words sinks outControls outWords) none e =
     ap₂ readBack
     (written-taken (map controlByte trace) outControls (length controls) (length-map trace controlByte ∙ long))
     (written-taken (map dataWord trace) outWords (length controls) (length-map trace dataWord ∙ long))
@@ -87,47 +72,45 @@ outlet-by qs (run controls words sinks outControls outWords) Accepted e =
     trace : List Outlet
     trace = outletTrace qs (recorded controls words sinks)
 
+    -- a run that is not refused was lent sequences of one length
     same : (eqb (length words) (length controls) ≡ true) × (eqb (length sinks) (length controls) ≡ true)
-    same = both _ _ (due-lengths _ _ e)
+    same = both _ _ (not-false _ (none-keeps (runGrounds true controls words sinks outControls outWords) e .0))
 
     long : length trace ≡ length controls
     long =
         trace-length qs (recorded controls words sinks)
         ∙ recorded-length controls words sinks (eqb-true _ _ (same .0)) (eqb-true _ _ (same .1))
-outlet-by qs (run controls words sinks outControls outWords) (Refused why) e = refl
+outlet-by qs (run controls words sinks outControls outWords) (some number) e = refl
 
 pub answer-shows-outlet : (qs : List Queue) (call : Call) →
-    outletOf call (answer (well qs) call) ≡ outletTrace qs (cyclesBy (due true call) call)
-answer-shows-outlet qs call = outlet-by qs call (due true call) refl
+    outletOf call (answer (well qs) call) ≡ outletTrace qs (cyclesBy (firstOf (grounds true call)) call)
+answer-shows-outlet qs call = outlet-by qs call (firstOf (grounds true call)) refl
 
--- the outcome answered is the one due
-outcome-by : (qs : List Queue) (call : Call) (o : Outcome) → outcomeOf call (answerBy o (well qs) call) ≡ o
-outcome-by qs (step valid payload sink clear) Accepted = refl
-outcome-by qs (step valid payload sink clear) (Refused why) = refl
-outcome-by qs (run controls words sinks outControls outWords) Accepted = refl
-outcome-by qs (run controls words sinks outControls outWords) (Refused why) = refl
+-- the refusal answered is the one that is given
+refusal-by : (qs : List Queue) (call : Call) (o : Option ℕ) → refusalIn call (answerBy o (well qs) call) ≡ o
+refusal-by qs (step valid payload sink clear) none = refl
+refusal-by qs (step valid payload sink clear) (some number) = refl
+refusal-by qs (run controls words sinks outControls outWords) none = refl
+refusal-by qs (run controls words sinks outControls outWords) (some number) = refl
 
-pub answer-outcome : (qs : List Queue) (call : Call) → outcomeOf call (answer (well qs) call) ≡ due true call
-answer-outcome qs call = outcome-by qs call (due true call)
+pub answer-refusal : (qs : List Queue) (call : Call) → refusalIn call (answer (well qs) call) ≡ firstOf (grounds true call)
+answer-refusal qs call = refusal-by qs call (firstOf (grounds true call))
 
--- Not 6: of the refusals that a line of its form may get, each has another number.
-abbrev Not6 : Outcome → Type 0
-Not6 o = outcomeNumber o ≡ 6 → ⊥
+-- Not 6: no row that applies to a line of its form has that number.
+abbrev Not6 : List (Row ℕ) → Type 0
+Not6 [] = Unit {0}
+Not6 (row ∷ rows) = (row .applies ≡ true → row .name ≡ 6 → ⊥) × Not6 rows
 
-either-not6 : (b : Bool) (x y : Outcome) → Not6 x → Not6 y → Not6 (cond b x y)
-either-not6 true x y h i e = h e
-either-not6 false x y h i e = i e
+first-not6 : (rows : List (Row ℕ)) → Not6 rows → firstOf rows ≡ some 6 → ⊥
+first-not6 [] k e = clash cc
+first-not6 (row ∷ rows) k e =
+    ⊎-elim (λ t. k .0 t (let h = rw t at e in cc)) (λ f. first-not6 rows (k .1) (rw f at e)) (either (row .applies))
 
-due-not6 : (call : Call) → Not6 (due true call)
-due-not6 (step valid payload sink clear) =
-    either-not6 (not (legalStrb payload)) (Refused IllegalBits) Accepted (omega arith) (omega arith)
-due-not6 (run controls words sinks outControls outWords) =
-    either-not6 (not (eqb (length words) (length controls) && eqb (length sinks) (length controls))) (Refused LengthsDiffer) _ (omega arith)
-    (either-not6 (ltb maxCycles (length controls)) (Refused TooLong) _ (omega arith)
-    (either-not6 (anyOf reservedBits controls || anyOf (λ s. ltb 1 s) sinks) (Refused IllegalBits) _ (omega arith)
-    (either-not6 (ltb (length outControls) (length controls) || ltb (length outWords) (length controls)) (Refused OutputTooShort) Accepted
-    (omega arith)
-    (omega arith))))
-
-pub due-not-bad-state : (call : Call) → due true call ≡ Refused BadState → ⊥
-due-not-bad-state call e = due-not6 call (ap outcomeNumber e)
+pub grounds-not6 : (call : Call) → firstOf (grounds true call) ≡ some 6 → ⊥
+grounds-not6 (step valid payload sink clear) =
+    first-not6 (stepGrounds true payload) (λ t _. false≢true t, (λ _ n. omega arith, tt))
+grounds-not6 (run controls words sinks outControls outWords) =
+    first-not6 (runGrounds true controls words sinks outControls outWords) (
+      λ _ n. omega arith,
+      (λ _ n. omega arith, (λ t _. false≢true t, (λ _ n. omega arith, (λ _ n. omega arith, tt)))),
+    )

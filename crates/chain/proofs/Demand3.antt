@@ -3,43 +3,43 @@
 -- these cycles, and the laws over every list of cycles (`Ledger`, `Outlet`) are laws of what was answered. Assumes nothing.
 use Prim.Native.Nat.{ℕ, _≤_}
 use native.Mathlib.Omega.{arith}
-use mathlib.Core.Bool.{Bool, true, false, cond, not}
+use mathlib.Core.Bool.{true, false, not}
 use mathlib.Core.List.{List, [], _∷_, _++_, map}
+use mathlib.Core.Option.{Option, none, some}
 use mathlib.Core.Path.{_≡_, refl, sym, _∙_, ap, ap₂, subst}
 use lib.Dec.{leb}
 use lib.ListN.{length}
 use borrow.Author.Tests.{leb-true, not-false}
-use Rattle.signals.specs.declared.Refusal.the-variants.{BadDepth, BadCount}
-use Rattle.signals.specs.declared.Outcome.{Outcome}
-use Rattle.signals.specs.declared.Outcome.the-variants.{Accepted, Refused}
 use Rattle.signals.specs.Refusals.{anyOf}
+use Rattle.signals.specs.Tables.{firstOf}
 use Rattle.signals.proofs.Bools.{both, neither}
+use Rattle.signals.proofs.Tables.{none-keeps}
 use Rattle.fifo.specs.Queue.{empty, legalDepth}
 use Rattle.chain.specs.declared.Chain.{Chain}
 use Rattle.chain.specs.Cycles.{Cycle, outletTrace}
-use Rattle.chain.specs.Calls.{Call, well, due, asked, backBy, answer, newOutcome, legalCount}
+use Rattle.chain.specs.Calls.{Call, well, grounds, asked, backBy, answer, newGrounds, legalCount}
 use Rattle.chain.specs.Promises.{value, Done, Promised}
-use Rattle.chain.specs.Demand3.{Ledger, opened, enteredAll, Session, cyclesBy, cyclesOf, cyclesIn, outletOf, outletsIn, outcomeOf, Ruled, Demand3, Claim}
+use Rattle.chain.specs.Demand3.{Ledger, opened, enteredAll, Session, cyclesBy, cyclesOf, cyclesIn, outletOf, outletsIn, refusalIn, Ruled, Demand3, Claim}
 use Rattle.chain.proofs.Need.{Roomy}
 use Rattle.chain.proofs.Ledger.{Sound, sound-all, sound-opened, stretch-delivers-accepted, entered-append, entered-after}
 use Rattle.chain.proofs.Outlet.{trace-keeps-rules, trace-append}
-use Rattle.chain.proofs.Answers.{answer-shows-outlet, answer-outcome, due-not-bad-state}
+use Rattle.chain.proofs.Answers.{answer-shows-outlet, answer-refusal, grounds-not6}
 
 -- A chain whose value is the ledger's line.
 abbrev Carries : Chain → Ledger → Type 0
 Carries chain l = value chain ≡ well (l .line)
 
-back-entered : (l : Ledger) (call : Call) (o : Outcome) → backBy o (well (l .line)) call ≡ well (enteredAll l (cyclesBy o call) .line)
-back-entered l call Accepted = ap well (sym (entered-after l (asked call)))
-back-entered l call (Refused why) = refl
+back-entered : (l : Ledger) (call : Call) (o : Option ℕ) → backBy o (well (l .line)) call ≡ well (enteredAll l (cyclesBy o call) .line)
+back-entered l call none = ap well (sym (entered-after l (asked call)))
+back-entered l call (some number) = refl
 
 call-ruled : (l : Ledger) (given : Chain) → Carries given l → (d : Done) → Promised given d → Ruled l d
 call-ruled l given v d p =
     let answers : d .answered ≡ answer (well (l .line)) (d .call) = p .answers ∙ ap (λ x. answer x (d .call)) v in
     record {
       answers = answers;
-      gives = p .gives ∙ rw v (back-entered l (d .call) (due true (d .call)));
-      not6 = λ e. due-not-bad-state (d .call) (sym (ap (outcomeOf (d .call)) answers ∙ answer-outcome (l .line) (d .call)) ∙ e);
+      gives = p .gives ∙ rw v (back-entered l (d .call) (firstOf (grounds true (d .call))));
+      not6 = λ e. grounds-not6 (d .call) (sym (ap (refusalIn (d .call)) answers ∙ answer-refusal (l .line) (d .call)) ∙ e);
     }
 
 session-ruled : (l : Ledger) (given : Chain) → Carries given l → (past rest : List Done) (d : Done) → Session given (past ++ d ∷ rest) →
@@ -71,18 +71,16 @@ legal-room (d ∷ ds) h =
     let e = neither (not (legalDepth d)) (anyOf (λ x. not (legalDepth x)) ds) h in
     (leb-true 2 d (both (leb 2 d) _ (not-false (legalDepth d) (e .0)) .0), legal-room ds (e .1))
 
-new-legal : (depths : List ℕ) → newOutcome depths ≡ Accepted → Legal depths
-new-legal depths h = by-tests (legalCount (length depths)) (anyOf (λ d. not (legalDepth d)) depths) refl refl h
-  where
-    by-tests : (count bad : Bool) → legalCount (length depths) ≡ count → anyOf (λ d. not (legalDepth d)) depths ≡ bad →
-        cond count (cond bad (Refused BadDepth) Accepted) (Refused BadCount) ≡ Accepted → Legal depths
-    by-tests true false e f h =
-        record { count = leb-true 1 (length depths) (both (leb 1 (length depths)) _ e .0); room = legal-room depths f }
-    by-tests true true e f h = let z : _≡_ {A = ℕ} 0 1 = cc in absurd (omega arith)
-    by-tests false bad e f h = let z : _≡_ {A = ℕ} 0 1 = cc in absurd (omega arith)
+new-legal : (depths : List ℕ) → firstOf (newGrounds depths) ≡ none → Legal depths
+new-legal depths e =
+    let t = none-keeps (newGrounds depths) e in
+    record {
+      count = leb-true 1 (length depths) (both (leb 1 (length depths)) _ (not-false (legalCount (length depths)) (t .0)) .0);
+      room = legal-room depths (t .1 .0);
+    }
 
 -- From any chain whose FIFOs are empty and of legal depths.
-pub demand3-from : (depths : List ℕ) → newOutcome depths ≡ Accepted → (start : Chain) → value start ≡ well (map empty depths) →
+pub demand3-from : (depths : List ℕ) → firstOf (newGrounds depths) ≡ none → (start : Chain) → value start ≡ well (map empty depths) →
     (calls : List Done) → Session start calls → Demand3 depths calls
 demand3-from depths accepted start v calls s =
     record {

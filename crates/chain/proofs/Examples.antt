@@ -10,6 +10,7 @@ use Rattle.signals.specs.declared.Payload.{Payload}
 use Rattle.signals.specs.declared.Outcome.the-variants.{Accepted}
 use Rattle.signals.specs.Refusals.{accepts}
 use Rattle.signals.specs.Payloads.{zeros}
+use Rattle.signals.specs.Tables.{firstOf}
 use Rattle.fifo.specs.Queue.{Queue, empty, legalStrbs}
 use Rattle.fifo.specs.Queue as queue
 use Rattle.fifo.specs.Promises as fifo
@@ -18,7 +19,7 @@ use Rattle.chain.specs.declared.Chain.{Chain}
 use Rattle.chain.specs.declared.NewChain.{NewChain}
 use Rattle.chain.specs.Line.{heldIn}
 use Rattle.chain.specs.Cycles.{Cycle, Outlet, sampleOf}
-use Rattle.chain.specs.Calls.{maxFifos, Call, step, run, well, due, answer, back}
+use Rattle.chain.specs.Calls.{maxFifos, Call, step, run, well, grounds, answer, back}
 use Rattle.chain.specs.Promises.{value, Made, Done, Promised}
 use Rattle.chain.specs.Demand3.{Ledger, opened, enteredAll, Session, outletsIn, KeepsRules, Begins, Demand3}
 use Rattle.chain.proofs.Demand3.{demand3}
@@ -109,7 +110,7 @@ abbrev called : List Queue → Call → List Queue → Done
 called before call after = record { call = call; answered = answer (well before) call; back = chainOf after }
 
 promised : (before after : List Queue) (call : Call) → value (chainOf before) ≡ well before → value (chainOf after) ≡ back (well before) call →
-    (accepts (due true call) ≡ false → chainOf after ≡ chainOf before) → Promised (chainOf before) (called before call after)
+    (accepts (firstOf (grounds true call)) ≡ false → chainOf after ≡ chainOf before) → Promised (chainOf before) (called before call after)
 promised before after call v w same = record { answers = rw v; gives = rw v w; kept = rw v same }
 
 abbrev pub calls : List Done
@@ -124,7 +125,7 @@ abbrev pub new : NewChain
 new = record { outcome = Accepted; chain = chainOf none }
 
 pub made : Made depths new
-made = record { outcome = refl; gives = none-value }
+made = record { refusal = refl; gives = none-value }
 
 pub session : Session (new .chain) calls
 session = (

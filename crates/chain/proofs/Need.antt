@@ -3,7 +3,7 @@
 -- as there are payloads up to it and FIFOs ahead (`need-bound`), and each sink-ready cycle lowers that by one (`need-falls`). Assumes nothing.
 use Prim.Native.Nat.{ℕ, suc, _+_, _-_, _≤_, _<_, max}
 use native.Mathlib.Omega.{arith}
-use mathlib.Core.Bool.{Bool, true, false, cond}
+use mathlib.Core.Bool.{Bool, true, false, cond, true≢false}
 use mathlib.Core.List.{List, [], _∷_}
 use mathlib.Core.Path.{_≡_, refl, sym, _∙_, ap, subst, subst₂}
 use lib.Dec.{leb}
@@ -83,7 +83,7 @@ shown-one q = of-held (q .held)
 
 -- Capacity 2 enters here: a mouth that is not ready holds two or more, and they need longer than the way alone.
 full-needs : (qs : List Queue) → Roomy qs → mouth qs true ≡ false → length qs < need qs (count qs)
-full-needs [] room e = let z : _≡_ {A = Bool} true false = e in let y : _≡_ {A = ℕ} 0 1 = cc in omega arith
+full-needs [] room e = absurd (true≢false e)
 full-needs (q ∷ qs) room e =
     let full : capacity q ≤ length (q .held) = ltb-false (length (q .held)) (capacity q) e in
     rw (need-mouth q qs (count (q ∷ qs)) (omega (arith, count-mouth q qs, room .0))) (omega (arith, count-mouth q qs, room .0))

@@ -2,14 +2,15 @@
 -- then what stood there. One turn, over plain values. Assumes nothing.
 use mathlib.Core.Path.{_≡_, refl, sym, ap, _∙_}
 use mathlib.Core.Bool.{Bool, true, false}
-use mathlib.Core.List.{List, [], _∷_, _++_, map, map-append, append-assoc}
+use mathlib.Core.List.{List, [], _∷_, _++_, map, map-append}
 use Prim.Native.Nat.{ℕ, zero, suc, _+_, _*_, _≤_, _<_}
 use native.Mathlib.Omega.{arith}
 use native.Mathlib.Numerals.{add-one}
 use lib.Dec.{eqb}
 use lib.ListN.{length, getD, set, take, drop, length-map}
-use lib.Seq.{drop-cons, set-at, take-all, length-take-le}
+use lib.Seq.{take-all, length-take-le}
 use Rattle.signals.specs.Stream.{sample}
+use Rattle.signals.proofs.Writing.{writes-one}
 use Rattle.fifo.specs.Queue.{Queue}
 use Rattle.chain.specs.Cycles.{Cycle, after, afterAll, Outlet, outletIn, outletTrace}
 use Rattle.chain.specs.declared.Chain.{Chain}
@@ -64,7 +65,7 @@ write-next : (f : Outlet → ℕ) (qs : List Queue) (past : List Cycle) (c : Cyc
 write-next f qs past c i out old x n h e v =
     let made = map f (outletTrace qs past) in
     let long : length made ≡ i = length-map (outletTrace qs past) f ∙ trace-length qs past ∙ n in
-    rw (e, drop-cons old i 0 h, set-at made (getD old i 0) (drop (suc i) old) x i long, trace-next qs past c, map-append, append-assoc, v, add-one i)
+    writes-one made i old out long h e x ∙ rw (trace-next qs past c, map-append, v)
 
 pub record Tracing (qs : List Queue) (cycles : List Cycle) (oldControls oldWords : List ℕ) (chain : Chain) (i : ℕ) (controls words : List ℕ) : Type 0 where
   pub at : value chain ≡ well (afterAll qs (take i cycles))

@@ -8,6 +8,7 @@ use native.Mathlib.Omega.{arith}
 use lib.ListN.{length, getD, set}
 use Rattle.signals.specs.declared.Payload.{Payload}
 use Rattle.signals.specs.Payloads.{legalStrb}
+use Rattle.signals.proofs.Bools.{clash}
 use Rattle.fifo.specs.declared.Fifo.{Fifo}
 use Rattle.fifo.specs.declared.Stepped.{Stepped}
 use Rattle.fifo.specs.Queue as queue
@@ -27,12 +28,12 @@ line-of-wells (q ∷ qs) = rw (line-of-wells qs)
 
 pub wells-of-line : (vs : List queue.Value) (qs : List Queue) → lineOf vs ≡ well qs → vs ≡ map queue.well qs
 wells-of-line [] qs e = let none : qs ≡ [] = cc in rw none
-wells-of-line (queue.ill ∷ vs) qs e = absurd (let z : _≡_ {A = ℕ} 0 1 = cc in omega arith)
+wells-of-line (queue.ill ∷ vs) qs e = absurd (clash cc)
 wells-of-line (queue.well q ∷ vs) qs e = by-rest (lineOf vs) (wells-of-line vs) refl e
   where
     by-rest : (rest : Value) → ((rs : List Queue) → lineOf vs ≡ well rs → vs ≡ map queue.well rs) → lineOf vs ≡ rest → before q rest ≡ well qs
         → queue.well q ∷ vs ≡ map queue.well qs
-    by-rest ill wells r e = absurd (let z : _≡_ {A = ℕ} 0 1 = cc in omega arith)
+    by-rest ill wells r e = absurd (clash cc)
     by-rest (well rs) wells r e = let same : q ∷ rs ≡ qs = cc in rw (← same) (ap (λ (l : List queue.Value). queue.well q ∷ l) (wells rs r))
 
 -- the queues of the FIFOs served, and of those left
@@ -52,7 +53,7 @@ module _ (fs : List Fifo) (n i : ℕ) where
   -- none is left at the end
   pub none-left : (left : List Queue) → n ≤ i → valuesFrom fs i n ≡ map queue.well left → left ≡ []
   none-left [] h e = refl
-  none-left (q ∷ qs) h e = absurd (let f = from-end fs i n h in let z : _≡_ {A = ℕ} 0 1 = cc in omega arith)
+  none-left (q ∷ qs) h e = absurd (let f = from-end fs i n h in clash cc)
 
   -- the FIFO at a place before the end is the first of those left
   pub record Front (d : Fifo) (left : List Queue) : Type 0 where
@@ -66,7 +67,7 @@ module _ (fs : List Fifo) (n i : ℕ) where
   front d left h k e = by-left left (sym (from-cons fs i n d h k) ∙ e)
     where
       by-left : (left : List Queue) → fifo.value (getD fs i d) ∷ valuesFrom fs (i + 1) n ≡ map queue.well left → Front d left
-      by-left [] e = absurd (let z : _≡_ {A = ℕ} 0 1 = cc in omega arith)
+      by-left [] e = absurd (clash cc)
       by-left (q ∷ qs) e = record { first = q; others = qs; stands = refl; has = cc; behind = cc }
 
   -- it is ready to what stands before it, by its numbers

@@ -1,18 +1,16 @@
--- Document 01, "The stage and the line" and "Refusal numbers": the calls on a line, which refusal is due, and what each answers.
+-- Document 01, "The stage and the line" and "Refusal numbers": the calls on a line, why each is refused, and what each answers.
 -- Assumes nothing.
 use Prim.Native.Nat.{ℕ, _+_, _*_}
 use mathlib.Core.Bool.{Bool, true, false, cond, not, _&&_, _||_}
 use mathlib.Core.List.{List, [], _∷_, _++_, map}
+use mathlib.Core.Option.{Option, none, some}
 use lib.ListN.{length, drop}
 use lib.Dec.{eqb, leb, ltb}
 use Rattle.signals.specs.declared.Payload.{Payload}
-use Rattle.signals.specs.declared.Refusal.{Refusal}
-use Rattle.signals.specs.declared.Refusal.the-variants.{LengthsDiffer, IllegalBits, TooLong, BadDepth, BadCount, BadState, OutputTooShort}
-use Rattle.signals.specs.declared.Outcome.{Outcome}
-use Rattle.signals.specs.declared.Outcome.the-variants.{Accepted, Refused}
 use Rattle.signals.specs.Refusals.{accepts, maxCycles, anyOf}
 use Rattle.signals.specs.Payloads.{zeros, legalStrb}
 use Rattle.signals.specs.Stream.{sample, reservedBits}
+use Rattle.signals.specs.Tables.{Row, _⇐_, firstOf}
 use Rattle.fifo.specs.Queue.{Queue, empty, legalDepth}
 use Rattle.chain.specs.Cycles.{Cycle, readyIn, outletIn, outletTrace, Outlet, afterAll}
 
@@ -36,42 +34,38 @@ abbrev pub queues : Value → List Queue
 queues ill = []
 queues (well qs) = qs
 
--- a new line: refusals 5, then 4
-abbrev pub newOutcome : (depths : List ℕ) → Outcome
-newOutcome depths =
-    cond (legalCount (length depths))
-    (cond (anyOf (λ d. not (legalDepth d)) depths) (Refused BadDepth) Accepted)
-    (Refused BadCount)
+-- the grounds for refusing a new line, in the order in which they are tried
+abbrev pub newGrounds : (depths : List ℕ) → List (Row ℕ)
+newGrounds depths =
+    5 ⇐ not (legalCount (length depths))
+    ∷ 4 ⇐ anyOf (λ d. not (legalDepth d)) depths
+    ∷ []
 
 -- it is empty; refused, it is one empty FIFO of depth 2
 abbrev pub newLine : (depths : List ℕ) → List Queue
-newLine depths = cond (accepts (newOutcome depths)) (map empty depths) (empty 2 ∷ [])
+newLine depths = cond (accepts (firstOf (newGrounds depths))) (map empty depths) (empty 2 ∷ [])
 
 -- A step with its arguments, or a run with its lent sequences and what its two lent outputs hold.
 pub data Call : Type 0 where
   step : (valid : Bool) (payload : Payload) (sink clear : Bool) → Call
   run : (controls words sinks outControls outWords : List ℕ) → Call
 
--- the refusal due to a step: 6, then 2
-abbrev pub dueStep : (form : Bool) → Payload → Outcome
-dueStep form payload =
-    cond (not form) (Refused BadState)
-    (cond (not (legalStrb payload)) (Refused IllegalBits)
-    Accepted)
+-- the grounds for refusing a step, and a run, of a line that has its form or has not
+abbrev pub stepGrounds : (form : Bool) → Payload → List (Row ℕ)
+stepGrounds form payload = 6 ⇐ not form ∷ 2 ⇐ not (legalStrb payload) ∷ []
 
--- and to a run: 1, 3, 6, 2, 7
-abbrev pub dueRun : (form : Bool) → (controls words sinks outControls outWords : List ℕ) → Outcome
-dueRun form controls words sinks outControls outWords =
-    cond (not (eqb (length words) (length controls) && eqb (length sinks) (length controls))) (Refused LengthsDiffer)
-    (cond (ltb maxCycles (length controls)) (Refused TooLong)
-    (cond (not form) (Refused BadState)
-    (cond (anyOf reservedBits controls || anyOf (λ s. ltb 1 s) sinks) (Refused IllegalBits)
-    (cond (ltb (length outControls) (length controls) || ltb (length outWords) (length controls)) (Refused OutputTooShort)
-    Accepted))))
+abbrev pub runGrounds : (form : Bool) → (controls words sinks outControls outWords : List ℕ) → List (Row ℕ)
+runGrounds form controls words sinks outControls outWords =
+    1 ⇐ not (eqb (length words) (length controls) && eqb (length sinks) (length controls))
+    ∷ 3 ⇐ ltb maxCycles (length controls)
+    ∷ 6 ⇐ not form
+    ∷ 2 ⇐ (anyOf reservedBits controls || anyOf (λ s. ltb 1 s) sinks)
+    ∷ 7 ⇐ (ltb (length outControls) (length controls) || ltb (length outWords) (length controls))
+    ∷ []
 
-abbrev pub due : (form : Bool) → Call → Outcome
-due form (step valid payload sink clear) = dueStep form payload
-due form (run controls words sinks outControls outWords) = dueRun form controls words sinks outControls outWords
+abbrev pub grounds : (form : Bool) → Call → List (Row ℕ)
+grounds form (step valid payload sink clear) = stepGrounds form payload
+grounds form (run controls words sinks outControls outWords) = runGrounds form controls words sinks outControls outWords
 
 -- a run's offers and sink readies, cycle by cycle; the offer's ready bits are not read, and there is no clear
 abbrev pub recorded : (controls words sinks : List ℕ) → List Cycle
@@ -100,15 +94,15 @@ dataWord o = o .sample .payload .«data»
 abbrev pub writtenOver : (new old : List ℕ) → List ℕ
 writtenOver new old = new ++ drop (length new) old
 
--- What a step answers; what a run answers, with what its outputs hold afterwards.
+-- What a step answers; what a run answers, with what its outputs hold afterwards. A refusal is told by its number.
 pub record Stepping : Type 0 where
-  pub outcome : Outcome
+  pub refusal : Option ℕ
   pub ready : Bool
   pub valid : Bool
   pub payload : Payload
 
 pub record Running : Type 0 where
-  pub outcome : Outcome
+  pub refusal : Option ℕ
   pub outControls : List ℕ
   pub outWords : List ℕ
 
@@ -121,7 +115,7 @@ abbrev pub accepted : List Queue → (call : Call) → Answer call
 accepted qs (step valid payload sink clear) =
     let c : Cycle = record { valid = valid; payload = payload; sink = sink; clear = clear } in
     record {
-      outcome = Accepted;
+      refusal = none;
       ready = readyIn qs c;
       valid = outletIn qs c .sample .valid;
       payload = outletIn qs c .sample .payload;
@@ -129,29 +123,29 @@ accepted qs (step valid payload sink clear) =
 accepted qs (run controls words sinks outControls outWords) =
     let trace : List Outlet = outletTrace qs (recorded controls words sinks) in
     record {
-      outcome = Accepted;
+      refusal = none;
       outControls = writtenOver (map controlByte trace) outControls;
       outWords = writtenOver (map dataWord trace) outWords;
     }
 
 -- a refused call's: everything shown is 0, and nothing is written
-abbrev pub refused : Refusal → (call : Call) → Answer call
-refused why (step valid payload sink clear) =
-    record { outcome = Refused why; ready = false; valid = false; payload = zeros }
-refused why (run controls words sinks outControls outWords) =
-    record { outcome = Refused why; outControls = outControls; outWords = outWords }
+abbrev pub refused : (number : ℕ) → (call : Call) → Answer call
+refused number (step valid payload sink clear) =
+    record { refusal = some number; ready = false; valid = false; payload = zeros }
+refused number (run controls words sinks outControls outWords) =
+    record { refusal = some number; outControls = outControls; outWords = outWords }
 
 -- what a call answers to a line of any value, and the value that it gives back
-abbrev pub answerBy : Outcome → Value → (call : Call) → Answer call
-answerBy Accepted v call = accepted (queues v) call
-answerBy (Refused why) v call = refused why call
+abbrev pub answerBy : (refusal : Option ℕ) → Value → (call : Call) → Answer call
+answerBy none v call = accepted (queues v) call
+answerBy (some number) v call = refused number call
 
 abbrev pub answer : Value → (call : Call) → Answer call
-answer v call = answerBy (due (isWell v) call) v call
+answer v call = answerBy (firstOf (grounds (isWell v) call)) v call
 
-abbrev pub backBy : Outcome → Value → Call → Value
-backBy Accepted v call = well (afterAll (queues v) (asked call))
-backBy (Refused why) v call = v
+abbrev pub backBy : (refusal : Option ℕ) → Value → Call → Value
+backBy none v call = well (afterAll (queues v) (asked call))
+backBy (some number) v call = v
 
 abbrev pub back : Value → Call → Value
-back v call = backBy (due (isWell v) call) v call
+back v call = backBy (firstOf (grounds (isWell v) call)) v call

@@ -2,11 +2,12 @@
 -- Assumes nothing.
 use mathlib.Core.Bool.{Bool, true}
 use mathlib.Core.List.{List, map}
+use mathlib.Core.Option.{none}
 use mathlib.Core.Path.{_≡_}
 use Prim.Native.Nat.{ℕ, _≤_}
 use lib.ListN.{length}
 use Rattle.signals.specs.declared.Payload.{Payload}
-use Rattle.signals.specs.declared.Outcome.the-variants.{Accepted}
+use Rattle.signals.specs.Refusals.{refusalOf}
 use Rattle.signals.specs.Payloads.{legalStrb}
 use Rattle.fifo.specs.Queue.{Queue, isAny, shownAs}
 use Rattle.chain.specs.declared.Chain.{Chain}
@@ -20,7 +21,7 @@ given valid payload sink clear = record { valid = valid; payload = payload; sink
 
 -- a cycle from the lists qs on, part by part
 pub record Cycled (qs : List Queue) (c : Cycle) (r : Stepped) : Type 0 where
-  pub outcome : r .outcome ≡ Accepted
+  pub refusal : refusalOf (r .outcome) ≡ none
   pub ready : r .ready ≡ readyIn qs c
   pub valid : r .valid ≡ isAny (shownIn qs c)
   pub payload : r .payload ≡ shownAs (shownIn qs c)

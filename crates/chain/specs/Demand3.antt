@@ -3,21 +3,20 @@
 use Prim.Native.Nat.{ℕ, _+_, _≤_}
 use mathlib.Core.Bool.{true, false, cond, _&&_}
 use mathlib.Core.List.{List, [], _∷_, _++_, map}
+use mathlib.Core.Option.{Option, none, some}
 use mathlib.Core.Path.{_≡_}
 use lib.ListN.{length, take}
 use Rattle.signals.specs.declared.Payload.{Payload}
-use Rattle.signals.specs.declared.Refusal.the-variants.{BadState}
-use Rattle.signals.specs.declared.Outcome.{Outcome}
-use Rattle.signals.specs.declared.Outcome.the-variants.{Accepted, Refused}
 use Rattle.signals.specs.Refusals.{accepts}
 use Rattle.signals.specs.Stream.{sample}
+use Rattle.signals.specs.Tables.{firstOf}
 use Rattle.stream_checker.specs.Rules.{breaksHeld, breaksStable}
 use Rattle.fifo.specs.Queue.{Queue, empty}
 use Rattle.chain.specs.declared.Chain.{Chain}
 use Rattle.chain.specs.declared.NewChain.{NewChain}
 use Rattle.chain.specs.Line.{heldIn}
 use Rattle.chain.specs.Cycles.{Cycle, readyIn, acceptedIn, deliveredIn, after, Outlet}
-use Rattle.chain.specs.Calls.{Call, step, run, Answer, well, due, asked, answer, newOutcome}
+use Rattle.chain.specs.Calls.{Call, step, run, Answer, well, grounds, asked, answer, newGrounds}
 use Rattle.chain.specs.Promises.{value, Made, Done, Promised}
 
 -- A line with what it accepted and delivered since the last clear, or since the start if there was none.
@@ -48,12 +47,12 @@ Session given [] = Unit {0}
 Session given (d ∷ ds) = Promised given d × Session (d .back) ds
 
 -- the cycles of a call on a line that has its form: a refused call has none
-abbrev pub cyclesBy : Outcome → Call → List Cycle
-cyclesBy Accepted call = asked call
-cyclesBy (Refused why) call = []
+abbrev pub cyclesBy : (refusal : Option ℕ) → Call → List Cycle
+cyclesBy none call = asked call
+cyclesBy (some number) call = []
 
 abbrev pub cyclesOf : Done → List Cycle
-cyclesOf d = cyclesBy (due true (d .call)) (d .call)
+cyclesOf d = cyclesBy (firstOf (grounds true (d .call))) (d .call)
 
 -- the cycles of all calls follow one another in order
 abbrev pub cyclesIn : List Done → List Cycle
@@ -68,11 +67,11 @@ readBack (c ∷ cs) (w ∷ ws) = record { clear = false; sample = sample c w } �
 
 abbrev pub outletOf : (call : Call) → Answer call → List Outlet
 outletOf (step valid payload sink clear) a =
-    cond (accepts (a .outcome))
+    cond (accepts (a .refusal))
     (record { clear = clear; sample = record { valid = a .valid; ready = sink; payload = a .payload } } ∷ [])
     []
 outletOf (run controls words sinks outControls outWords) a =
-    cond (accepts (a .outcome))
+    cond (accepts (a .refusal))
     (readBack (take (length controls) (a .outControls)) (take (length controls) (a .outWords)))
     []
 
@@ -98,16 +97,16 @@ NoClear (c ∷ cs) = (c .clear ≡ false) × NoClear cs
 abbrev pub Begins : (xs ys : List Payload) → Type 0
 Begins xs ys = (more : List Payload) × (ys ≡ xs ++ more)
 
--- accepted, or refused with which number
-abbrev pub outcomeOf : (call : Call) → Answer call → Outcome
-outcomeOf (step valid payload sink clear) a = a .outcome
-outcomeOf (run controls words sinks outControls outWords) a = a .outcome
+-- the number that a call was refused with, if it was
+abbrev pub refusalIn : (call : Call) → Answer call → Option ℕ
+refusalIn (step valid payload sink clear) a = a .refusal
+refusalIn (run controls words sinks outControls outWords) a = a .refusal
 
 -- a call answers, and gives back, what the rules give where the cycles before it left the ledger l; and it is not refused with 6
 pub record Ruled (l : Ledger) (d : Done) : Type 0 where
   pub answers : d .answered ≡ answer (well (l .line)) (d .call)
   pub gives : value (d .back) ≡ well (enteredAll l (cyclesOf d) .line)
-  pub not6 : outcomeOf (d .call) (d .answered) ≡ Refused BadState → ⊥
+  pub not6 : refusalIn (d .call) (d .answered) ≡ some 6 → ⊥
 
 pub record Demand3 (depths : List ℕ) (calls : List Done) : Type 0 where
   -- after every call
@@ -130,5 +129,5 @@ pub record Demand3 (depths : List ℕ) (calls : List Done) : Type 0 where
 -- The claim: for every list of depths that `Chain::new` accepts, every chain that it gives, and every session on that chain.
 abbrev pub Claim : Type 0
 Claim =
-    (depths : List ℕ) → newOutcome depths ≡ Accepted → (new : NewChain) → Made depths new →
+    (depths : List ℕ) → firstOf (newGrounds depths) ≡ none → (new : NewChain) → Made depths new →
     (calls : List Done) → Session (new .chain) calls → Demand3 depths calls

@@ -6,14 +6,15 @@ use mathlib.Core.List.{List, [], _∷_, map}
 use mathlib.Core.Path.{_≡_}
 use lib.ListN.{take}
 use Rattle.signals.specs.declared.Payload.{Payload}
-use Rattle.signals.specs.Refusals.{accepts}
+use Rattle.signals.specs.Refusals.{refusalOf, accepts}
+use Rattle.signals.specs.Tables.{firstOf}
 use Rattle.fifo.specs.Queue as queue
 use Rattle.fifo.specs.Promises as fifo
 use Rattle.chain.specs.declared.Chain.{Chain}
 use Rattle.chain.specs.declared.NewChain.{NewChain}
 use Rattle.chain.specs.declared.Stepped.{Stepped}
 use Rattle.chain.specs.declared.Ran.{Ran}
-use Rattle.chain.specs.Calls.{Value, ill, well, isWell, legalCount, newOutcome, newLine, Call, step, run, Answer, due, answer, back}
+use Rattle.chain.specs.Calls.{Value, ill, well, isWell, legalCount, newGrounds, newLine, Call, step, run, Answer, grounds, answer, back}
 
 -- the values of FIFOs in a row, if all have their form
 abbrev pub before : queue.Queue → Value → Value
@@ -30,7 +31,7 @@ unfoldable pub value : Chain → Value
 value chain = cond (legalCount (chain .count)) (lineOf (map fifo.value (take (chain .count) (chain .fifos)))) ill
 
 pub record Made (depths : List ℕ) (r : NewChain) : Type 0 where
-  pub outcome : r .outcome ≡ newOutcome depths
+  pub refusal : refusalOf (r .outcome) ≡ firstOf (newGrounds depths)
   pub gives : value (r .chain) ≡ well (newLine depths)
 
 -- A call that was made, with what it answered and the chain that it gave back.
@@ -43,14 +44,14 @@ pub record Done : Type 0 where
 pub record Promised (given : Chain) (done : Done) : Type 0 where
   pub answers : done .answered ≡ answer (value given) (done .call)
   pub gives : value (done .back) ≡ back (value given) (done .call)
-  pub kept : accepts (due (isWell (value given)) (done .call)) ≡ false → done .back ≡ given
+  pub kept : accepts (firstOf (grounds (isWell (value given)) (done .call))) ≡ false → done .back ≡ given
 
 -- a step of the code, and a run with its outputs at entry and at exit
 abbrev pub stepDone : (valid : Bool) → Payload → (sink clear : Bool) → Stepped → Done
 stepDone valid payload sink clear r =
     record {
       call = step valid payload sink clear;
-      answered = record { outcome = r .outcome; ready = r .ready; valid = r .valid; payload = r .payload };
+      answered = record { refusal = refusalOf (r .outcome); ready = r .ready; valid = r .valid; payload = r .payload };
       back = r .next;
     }
 
@@ -58,6 +59,6 @@ abbrev pub runDone : (controls words sinks : List ℕ) → (outControls outWords
 runDone controls words sinks outControls outWords r exitControls exitWords =
     record {
       call = run controls words sinks outControls outWords;
-      answered = record { outcome = r .outcome; outControls = exitControls; outWords = exitWords };
+      answered = record { refusal = refusalOf (r .outcome); outControls = exitControls; outWords = exitWords };
       back = r .next;
     }

@@ -3,7 +3,7 @@ ghost use mathlib.Core.Path.{_≡_};
 ghost use mathlib.Core.Bool.{true};
 ghost use mathlib.Core.List.{[], _∷_};
 ghost use lib.ListN.{length};
-ghost use Rattle.signals.specs.Refusals.{accepts};
+ghost use Rattle.signals.specs.Refusals.{refusalOf, accepts};
 ghost use Rattle.fifo.specs.Queue.{empty};
 ghost use Rattle.chain.specs.Calls.{well, legalCount};
 ghost use Rattle.chain.specs.Promises.{value, Made};
@@ -14,7 +14,7 @@ use fifo::Fifo;
 use signals::Outcome;
 
 pub(crate) fn is_accepted(outcome: Outcome) -> bool
-    ensures { λ r. ⌜ r ≡ accepts outcome ⌝ }
+    ensures { λ r. ⌜ r ≡ accepts (refusalOf outcome) ⌝ }
 {
     match outcome {
         Outcome::Accepted => true,

@@ -90,7 +90,7 @@ impl Chain {
     ) -> Ran
         ensures { λ r. ⌜ Promised self (runDone (now (control .entry)) (now («data» .entry)) (now (sink .entry)) (now («out_control» .entry)) (now («out_data» .entry)) r (now («out_control» .exit)) (now («out_data» .exit))) ⌝ }
     {
-        let outcome = self.due(control, data, sink, out_control.len(), out_data.len());
+        let outcome = self.refusal(control, data, sink, out_control.len(), out_data.len());
         if is_accepted(outcome) {
             let next = self.traced(control, data, sink, out_control, out_data);
             return Ran {

@@ -6,8 +6,9 @@ ghost use Prim.Native.Nat.{ℕ, _+_, _*_, _≤_};
 ghost use lib.ListN.{length};
 ghost use lib.Dec.{ltb};
 ghost use Rattle.signals.specs.Payloads.{maxStrb};
-ghost use Rattle.signals.specs.Refusals.{anyOf};
-ghost use Rattle.chain.specs.Calls.{isWell, queues, bit as bitOf, dueRun};
+ghost use Rattle.signals.specs.Refusals.{refusalOf, anyOf};
+ghost use Rattle.signals.specs.Tables.{firstOf};
+ghost use Rattle.chain.specs.Calls.{isWell, queues, bit as bitOf, runGrounds};
 ghost use Rattle.chain.specs.Promises.{value};
 ghost use Rattle.chain.specs.Cycling.{Sized, Traced};
 use super::Chain;
@@ -46,8 +47,8 @@ fn control_byte(valid: bool, ready: bool, strb: u8) -> u8
 }
 
 impl Chain {
-    // The refusal due to a run whose outputs have room for so many cycles, whatever they hold.
-    pub(crate) fn due(
+    // The refusals 1, 3, 6, 2 and 7 of a run, in this order, where its outputs have room for so many cycles, whatever they hold.
+    pub(crate) fn refusal(
         self,
         control: &[u8],
         data: &[u32],
@@ -55,7 +56,7 @@ impl Chain {
         room_control: usize,
         room_data: usize,
     ) -> Outcome
-        ensures { λ r. ⌜ ((outControls outWords : List ℕ) → length outControls ≡ «room_control» → length outWords ≡ «room_data» → r ≡ dueRun (isWell (value self)) (now (control .entry)) (now («data» .entry)) (now (sink .entry)) outControls outWords) ⌝ }
+        ensures { λ r. ⌜ ((outControls outWords : List ℕ) → length outControls ≡ «room_control» → length outWords ≡ «room_data» → refusalOf r ≡ firstOf (runGrounds (isWell (value self)) (now (control .entry)) (now («data» .entry)) (now (sink .entry)) outControls outWords)) ⌝ }
     {
         let cycles = control.len();
         let same = (data.len() == cycles) & (sink.len() == cycles);

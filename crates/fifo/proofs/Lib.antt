@@ -1,4 +1,4 @@
--- Laws that belong to no one function. Users of the crate need `Depths`, `Strobes`, `Stepping` and `Some`.
+-- Laws that belong to no one function. Users of the crate need `Stepping` and `Some`.
 pub mod Depths
 pub mod Slots
 pub mod Form

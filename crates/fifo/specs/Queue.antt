@@ -110,7 +110,7 @@ cycled q offer sink =
 abbrev pub cleared : Queue → Answer
 cleared q = record { refusal = none; ready = false; valid = false; payload = zeros; next = well (emptied q) }
 
--- a step's refusals, in the order in which they are tried
+-- the grounds for refusing a step, in the order in which they are tried
 abbrev pub stepGrounds : Value → Payload → List (Row ℕ)
 stepGrounds v p = 6 ⇐ not (isWell v) ∷ 2 ⇐ not (legalStrb p) ∷ []
 
@@ -122,7 +122,7 @@ stepBy none v valid p sink clear = cond clear (cleared (queueIn v)) (cycled (que
 unfoldable pub stepOf : Value → (valid : Bool) → Payload → (sink clear : Bool) → Answer
 stepOf v valid p sink clear = stepBy (firstOf (stepGrounds v p)) v valid p sink clear
 
--- a new FIFO's refusal
+-- the ground for refusing a new FIFO
 abbrev pub newGrounds : (depth : ℕ) → List (Row ℕ)
 newGrounds depth = 4 ⇐ not (legalDepth depth) ∷ []
 

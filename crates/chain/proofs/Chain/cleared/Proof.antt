@@ -70,7 +70,7 @@ returns c valid payload sink =
     let at : l .i ≡ chain .count = omega arith in
     let e = clearing-end _ (l .chain .fifos) (chain .count) (rw at at (l .inv .0)) in
     record {
-      outcome = refl;
+      refusal = refl;
       ready = refl;
       valid = refl;
       payload = refl;

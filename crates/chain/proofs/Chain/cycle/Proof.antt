@@ -135,7 +135,7 @@ returns c =
     let e = cycling-end _ _ (a .sink) _ n _ (rw end at (t .cycling)) in
     let same = l .inv .1 .1 .0 in
     record {
-      outcome = refl;
+      refusal = refl;
       ready =
           c .before .before .before .before .before .before .is-ready .ensures
           ∙ first-ready (a .self) _ (a .sink) f (c .before .before .before .before .before .before .before .before .has-all .ensures);

@@ -1,20 +1,15 @@
--- `Chain::due` meets its contract: the tests follow document 01's order of the refusals of a run. Assumes nothing.
+-- `Chain::refusal` meets its contract: the tests follow document 01's order of the refusals of a run. Assumes nothing.
 use borrow.Author.Needs.{needs}
 use borrow.Author.Tests.{lt-ltb, le-ltb}
 use Prim.Native.Nat.{ℕ}
-use mathlib.Core.Bool.{cond, _||_}
 use mathlib.Core.List.{List}
 use mathlib.Core.Path.{_≡_}
-use lib.Dec.{ltb}
-use lib.ListN.{length}
-use Rattle.signals.specs.declared.Outcome.the-variants.{Accepted, Refused}
-use Rattle.signals.specs.declared.Refusal.the-variants.{IllegalBits, OutputTooShort}
-use Rattle.signals.specs.Refusals.{anyOf}
-use Rattle.signals.specs.Stream.{reservedBits}
-use Rattle.chain.specs.Calls.{isWell, dueRun}
+use lib.ListN.{drop}
+use Rattle.signals.specs.Tables.{Row, firstOf}
+use Rattle.chain.specs.Calls.{isWell, runGrounds}
 use Rattle.chain.specs.Promises.{value}
-use Rattle.chain.proofs.Chain.due.Statement.{statement}
-use Rattle.chain.proofs.Chain.due.Tie as tie
+use Rattle.chain.proofs.Chain.refusal.Statement.{statement}
+use Rattle.chain.proofs.Chain.refusal.Tie as tie
 
 returns : tie.Need-returns
 returns c outControls outWords h k = rw (c .before .if1 .taken, lt-ltb _ _ (c .if2 .taken))
@@ -28,13 +23,16 @@ any-reserved-requires c κs = search needs
 any-above-one-requires : tie.Need-any-above-one-requires
 any-above-one-requires c κs = search needs
 
--- what is left to test of a chain that has its form: the bits, then the room of the outputs
+-- a run's grounds, at any outputs
+abbrev groundsAt : (c : tie.Start) → (outControls outWords : List ℕ) → List (Row ℕ)
+groundsAt c outControls outWords =
+    let a = c .args in
+    runGrounds (isWell (value (a .self))) (a .control .now) (a .«data» .now) (a .sink .now) outControls outWords
+
+-- of a chain that has its form, the bits and then the room of the outputs are left to test
 bits-left : (c : tie.Then3) (outControls outWords : List ℕ) →
-    let a = c .before .before .before .before .before .before .before .args in
-    let controls = a .control .now in
-    dueRun (isWell (value (a .self))) controls (a .«data» .now) (a .sink .now) outControls outWords
-    ≡ cond (anyOf reservedBits controls || anyOf (λ s. ltb 1 s) (a .sink .now)) (Refused IllegalBits)
-    (cond (ltb (length outControls) (length controls) || ltb (length outWords) (length controls)) (Refused OutputTooShort) Accepted)
+    let rows = groundsAt (c .before .before .before .before .before .before .before) outControls outWords in
+    firstOf rows ≡ firstOf (drop 3 rows)
 bits-left c outControls outWords =
     rw (
       c .before .before .before .if1 .taken,
@@ -54,10 +52,8 @@ returns-2 c outControls outWords h k =
 
 -- and past the bits, the room alone
 room-left : (c : tie.Else4) (outControls outWords : List ℕ) →
-    let a = c .before .before .before .before .before .before .before .before .before .before .args in
-    let controls = a .control .now in
-    dueRun (isWell (value (a .self))) controls (a .«data» .now) (a .sink .now) outControls outWords
-    ≡ cond (ltb (length outControls) (length controls) || ltb (length outWords) (length controls)) (Refused OutputTooShort) Accepted
+    let rows = groundsAt (c .before .before .before .before .before .before .before .before .before .before) outControls outWords in
+    firstOf rows ≡ firstOf (drop 4 rows)
 room-left c outControls outWords =
     rw (
       bits-left (c .before .before .before) outControls outWords,
@@ -79,8 +75,8 @@ returns-5 c outControls outWords h k =
 returns-6 : tie.Need-returns-6
 returns-6 c outControls outWords h k = rw (c .if1 .left)
 
-pub due-spec : {M : Type 1} → statement M
-due-spec =
+pub refusal-spec : {M : Type 1} → statement M
+refusal-spec =
     tie.close
     (tie.spec
     returns
