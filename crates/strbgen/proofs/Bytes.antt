@@ -8,8 +8,9 @@ use mathlib.Core.Logic.{⊎-elim}
 use mathlib.Core.Path.{_≡_, refl, sym, _∙_}
 use lib.Dec.{eqb, ltb, leb}
 use borrow.Author.Tests.{lt-ltb, le-ltb, le-leb, eq-eqb, ne-eqb, eqb-true, eqb-false, ltb-true, ltb-false}
+use Rattle.signals.specs.Sequences.{entriesBelow}
 use Rattle.signals.proofs.Bools.{either}
-use Rattle.strbgen.specs.Plan.{wordCount, firstStrobe, lastStrobe, strobeAt, strobesBelow, strobes}
+use Rattle.strbgen.specs.Plan.{wordCount, firstStrobe, lastStrobe, strobeAt, strobes}
 use Rattle.strbgen.specs.Bytes.{names, bytesIn, bytesNamed, ExactBytes}
 use Rattle.strbgen.proofs.Table.{first-and-last, first-names, last-names, full-names}
 
@@ -22,6 +23,10 @@ one-more (s ∷ more) strobe = rw (one-more more strobe) (assoc (bytesIn s) (byt
     assoc a b c = omega arith
 
 module _ (m words : ℕ) where
+  -- the strobes of the words 0 to i - 1
+  abbrev below : ℕ → List ℕ
+  below i = entriesBelow (strobeAt m words) i
+
   -- a word that is neither first nor last is full
   between : (k : ℕ) → suc (suc k) < words → strobeAt m words (suc k) ≡ 15
   between k h = simp (ne-eqb (suc k) 0 (λ e. omega arith), ne-eqb (suc k + 1) words (λ e. omega arith))
@@ -30,19 +35,19 @@ module _ (m words : ℕ) where
   last-word k e = simp (ne-eqb (suc k) 0 (λ z. omega arith), eq-eqb (suc k + 1) words (omega arith))
 
   -- up to the last word: the first word, and k full ones
-  before-last : (k : ℕ) → suc k < words → bytesNamed (strobesBelow m words (suc k)) ≡ bytesIn (firstStrobe m) + 4 * k
+  before-last : (k : ℕ) → suc k < words → bytesNamed (below (suc k)) ≡ bytesIn (firstStrobe m) + 4 * k
   unfolding bytesIn
   before-last zero h = omega arith
   before-last (suc k) h =
-      one-more (strobesBelow m words (suc k)) (strobeAt m words (suc k)) ∙ rw (between k (omega arith), before-last k (omega arith)) (four-more (bytesIn (firstStrobe m)))
+      one-more (below (suc k)) (strobeAt m words (suc k)) ∙ rw (between k (omega arith), before-last k (omega arith)) (four-more (bytesIn (firstStrobe m)))
     where
       four-more : (a : ℕ) → a + 4 * k + 4 ≡ a + 4 * suc k
       four-more a = omega arith
 
   -- a plan of at least two words
-  whole : (k : ℕ) → suc (suc k) ≡ words → bytesNamed (strobesBelow m words (suc (suc k))) ≡ bytesIn (firstStrobe m) + bytesIn (lastStrobe m) + 4 * k
+  whole : (k : ℕ) → suc (suc k) ≡ words → bytesNamed (below (suc (suc k))) ≡ bytesIn (firstStrobe m) + bytesIn (lastStrobe m) + 4 * k
   whole k e =
-      one-more (strobesBelow m words (suc k)) (strobeAt m words (suc k)) ∙
+      one-more (below (suc k)) (strobeAt m words (suc k)) ∙
       rw (last-word k e, before-last k (omega arith)) (swap (bytesIn (firstStrobe m)) (bytesIn (lastStrobe m)))
     where
       swap : (a b : ℕ) → a + 4 * k + b ≡ a + b + 4 * k

@@ -1,14 +1,14 @@
 -- Document 01, "Strobe plan": how many words the packets take, and the strobe of each. m is the byte address's remainder by 4,
 -- and n the number of packets. Assumes nothing.
-use Prim.Native.Nat.{ℕ, zero, suc, _+_, _%_}
+use Prim.Native.Nat.{ℕ, _+_, _%_}
 use mathlib.Core.Bool.{cond, _||_}
 use mathlib.Core.List.{List, [], _∷_, _++_}
 use mathlib.Core.Path.{_≡_}
 use lib.Dec.{eqb, ltb}
 use lib.ListN.{length, getD, drop}
-use Rattle.signals.specs.declared.Refusal.the-variants.{TooLong, OutputTooShort}
-use Rattle.signals.specs.declared.Outcome.{Outcome}
-use Rattle.signals.specs.declared.Outcome.the-variants.{Accepted, Refused}
+use Rattle.signals.specs.Tables.{Row, _⇐_, firstOf}
+use Rattle.signals.specs.Refusals.{refusalOf, accepts}
+use Rattle.signals.specs.Sequences.{entriesBelow}
 use Rattle.strbgen.specs.declared.Plan.{Plan}
 
 -- how many packets a plan may have
@@ -37,30 +37,20 @@ lastStrobe m = getD lastStrobes m 0
 abbrev pub strobeAt : ℕ → ℕ → ℕ → ℕ
 strobeAt m words i = cond (eqb i 0) (firstStrobe m) (cond (eqb (i + 1) words) (lastStrobe m) 15)
 
--- the strobes of the words 0 to i - 1
-abbrev pub strobesBelow : ℕ → ℕ → ℕ → List ℕ
-strobesBelow m words zero = []
-strobesBelow m words (suc i) = strobesBelow m words i ++ (strobeAt m words i ∷ [])
-
 -- all strobes of a plan of so many words
 abbrev pub strobes : ℕ → ℕ → List ℕ
-strobes m words = strobesBelow m words words
+strobes m words = entriesBelow (strobeAt m words) words
 
 -- refusals 3 and 7 in this order: more packets than a plan may have, a buffer of fewer bytes than the plan has words
-abbrev pub due : ℕ → ℕ → ℕ → Outcome
-due address n room =
-    cond (ltb maxPackets n) (Refused TooLong)
-    (cond (ltb room (wordCount (address % 4) n)) (Refused OutputTooShort) Accepted)
+abbrev pub grounds : (address n room : ℕ) → List (Row ℕ)
+grounds address n room = 3 ⇐ ltb maxPackets n ∷ 7 ⇐ ltb room (wordCount (address % 4) n) ∷ []
 
 -- the words of the plan; refused, none
-abbrev pub answerTo : ℕ → ℕ → Outcome → Plan
-answerTo address n Accepted = record { outcome = Accepted; words = wordCount (address % 4) n }
-answerTo address n (Refused why) = record { outcome = Refused why; words = 0 }
-
-abbrev pub planOf : ℕ → ℕ → ℕ → Plan
-planOf address n room = answerTo address n (due address n room)
+abbrev pub wordsOf : (address n room : ℕ) → ℕ
+wordsOf address n room = cond (accepts (firstOf (grounds address n room))) (wordCount (address % 4) n) 0
 
 -- what a call answers, and what its buffer holds afterwards: the strobes from its start, and beyond them what it had before
 pub record Planned (address n : ℕ) (before after : List ℕ) (answered : Plan) : Type 0 where
-  pub answer : answered ≡ planOf address n (length before)
+  pub refusal : refusalOf (answered .outcome) ≡ firstOf (grounds address n (length before))
+  pub words : answered .words ≡ wordsOf address n (length before)
   pub written : after ≡ strobes (address % 4) (answered .words) ++ drop (answered .words) before

@@ -6,14 +6,15 @@ use mathlib.Core.List.{_++_}
 use mathlib.Core.Path.{_≡_}
 use lib.ListN.{length, drop, length-set}
 use borrow.Author.Needs.{needs}
-use Rattle.strbgen.specs.Plan.{strobesBelow}
-use Rattle.strbgen.proofs.Writing.{writes-next}
+use Rattle.signals.specs.Sequences.{entriesBelow}
+use Rattle.signals.proofs.Writing.{writes-next}
+use Rattle.strbgen.specs.Plan.{strobeAt}
 use Rattle.strbgen.proofs.fill.Statement.{statement}
 use Rattle.strbgen.proofs.fill.Tie as tie
 
 abbrev Inv-loop : tie.InvT-loop
 Inv-loop m words out₀ i₀ out i =
-    (i ≤ words) × (length out ≡ length out₀) × (out ≡ strobesBelow m words i ++ drop i out₀)
+    (i ≤ words) × (length out ≡ length out₀) × (out ≡ entriesBelow (strobeAt m words) i ++ drop i out₀)
 
 abbrev μ-loop : tie.MeasureT-loop
 μ-loop m words out₀ i₀ out i = words - i
@@ -36,7 +37,7 @@ loop-less c = omega arith
 loop-again : tie.Need-loop-again Inv-loop μ-loop
 loop-again c =
     let l = c .before .before .loop in
-    (omega arith, simp length-set (omega arith), writes-next _ _ (l .i) _ _ (omega arith) (l .inv .2) _ (c .strobe-at .ensures))
+    (omega arith, simp length-set (omega arith), writes-next _ (l .i) _ _ (omega arith) (l .inv .2) _ (c .strobe-at .ensures))
 
 same-length : tie.Need-same-length Inv-loop μ-loop
 same-length c = search needs

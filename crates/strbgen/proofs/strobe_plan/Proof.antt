@@ -1,12 +1,18 @@
 -- `strbgen::strobe_plan` meets its contract: its tests are those of the refusals, in order, and `fill` writes the rest. Assumes nothing.
+use Prim.Native.Nat.{_%_}
+use native.Mathlib.Omega.{arith}
 use mathlib.Core.Path.{refl}
+use lib.ListN.{length}
 use borrow.Author.Tests.{lt-ltb, le-ltb}
 use borrow.Author.Needs.{needs}
+use Rattle.strbgen.specs.Plan.{maxPackets, wordCount}
 use Rattle.strbgen.proofs.strobe_plan.Statement.{statement}
 use Rattle.strbgen.proofs.strobe_plan.Tie as tie
 
 returns : tie.Need-returns
-returns c = record { answer = simp (lt-ltb _ _ (c .if1 .taken)); written = refl }
+returns c =
+    let many = lt-ltb maxPackets (c .before .before .args .n) (omega arith) in
+    record { refusal = simp many; words = simp many; written = refl }
 
 cast-m : tie.Need-cast-m
 cast-m c = search needs
@@ -16,8 +22,10 @@ word-count-requires c κs = search needs
 
 returns-2 : tie.Need-returns-2
 returns-2 c =
-    let short = rw (c .before .word-count .ensures) at (c .if2 .taken) in
-    record { answer = simp (le-ltb _ _ (c .before .before .if1 .left), lt-ltb _ _ short); written = refl }
+    let a = c .before .before .before .before .args in
+    let few = le-ltb maxPackets (a .n) (omega arith) in
+    let short = lt-ltb (length (a .out .now)) (wordCount (a .address % 4) (a .n)) (omega arith) in
+    record { refusal = simp (few, short); words = simp (few, short); written = refl }
 
 fill-requires : tie.Need-fill-requires
 fill-requires c κs = search needs
@@ -27,10 +35,13 @@ same-length c = search needs
 
 returns-3 : tie.Need-returns-3
 returns-3 c =
+    let a = c .before .before .before .before .before .before .before .before .args in
     let counted = c .before .before .before .before .before .word-count .ensures in
-    let room = rw counted at (c .before .before .before .before .if2 .left) in
+    let few = le-ltb maxPackets (a .n) (omega arith) in
+    let room = le-ltb (length (a .out .now)) (wordCount (a .address % 4) (a .n)) (omega arith) in
     record {
-      answer = simp (le-ltb _ _ (c .before .before .before .before .before .before .if1 .left), le-ltb _ _ room, counted);
+      refusal = simp (few, room);
+      words = simp (few, room, counted);
       written = c .before .before .fill .ensures;
     }
 
