@@ -4,21 +4,21 @@ use native.Mathlib.Omega.{arith}
 use mathlib.Core.Bool.{Bool, true, false}
 use mathlib.Core.List.{List, []}
 use mathlib.Core.Logic.{_↔_, ⊎-elim}
+use mathlib.Core.Option.{Option, none, some}
 use mathlib.Core.Path.{_≡_, ap}
 use lib.ListN.{length, take, drop, length-take, length-drop}
 use denote.Ref.{now}
-use Rattle.signals.specs.declared.Refusal.the-variants.{OutOfRange}
-use Rattle.signals.specs.declared.Outcome.the-variants.{Accepted, Refused}
-use Rattle.signals.proofs.Bools.{either}
-use Rattle.mux.specs.Mux.{Trace, selected, outOfRange, due, muxed}
+use Rattle.signals.specs.Tables.{firstOf}
+use Rattle.signals.proofs.Bools.{either, clash}
+use Rattle.mux.specs.Mux.{Trace, selected, outOfRange, grounds, muxed}
 use Rattle.mux.proofs.Range.{in-range}
 
 -- a part within a list has the length asked for
 length-part : (l : List ℕ) (first count : ℕ) → first + count ≤ length l → length (take count (drop first l)) ≡ count
 length-part l first count h = simp (length-take, length-drop) (omega arith)
 
--- the part answered is empty exactly when refusal 8 is due
-pub refused-is-empty : (t0 t1 : Trace) (select first count : ℕ) → (due t0 t1 select first count ≡ Refused OutOfRange) ↔ (muxed t0 t1 select first count .bytes ≡ [])
+-- the part answered is empty exactly when refusal 8 is given
+pub refused-is-empty : (t0 t1 : Trace) (select first count : ℕ) → (firstOf (grounds t0 t1 select first count) ≡ some 8) ↔ (muxed t0 t1 select first count .bytes ≡ [])
 refused-is-empty t0 t1 select first count = ⊎-elim refused accepted (either past)
   where
     chosen : List ℕ
@@ -28,13 +28,13 @@ refused-is-empty t0 t1 select first count = ⊎-elim refused accepted (either pa
     past = outOfRange (length chosen) select first count
 
     Told : Type 0
-    Told = (due t0 t1 select first count ≡ Refused OutOfRange) ↔ (muxed t0 t1 select first count .bytes ≡ [])
+    Told = (firstOf (grounds t0 t1 select first count) ≡ some 8) ↔ (muxed t0 t1 select first count .bytes ≡ [])
 
     refused : past ≡ true → Told
     refused t = (λ e. simp t, λ e. simp t)
 
-    not-accepted : Accepted ≡ Refused OutOfRange → ⊥
-    not-accepted e = let z : _≡_ {A = ℕ} 0 1 = cc in omega arith
+    not-refused : _≡_ {A = Option ℕ} none (some 8) → ⊥
+    not-refused e = clash cc
 
     not-empty : past ≡ false → take count (drop first chosen) ≡ [] → ⊥
     not-empty f e =
@@ -42,4 +42,4 @@ refused-is-empty t0 t1 select first count = ⊎-elim refused accepted (either pa
         omega (arith, length-part chosen first count (h .1), ap length e)
 
     accepted : past ≡ false → Told
-    accepted f = (λ e. absurd (not-accepted (simp f at e)), λ e. absurd (not-empty f (simp f at e)))
+    accepted f = (λ e. absurd (not-refused (simp f at e)), λ e. absurd (not-empty f (simp f at e)))

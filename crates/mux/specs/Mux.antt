@@ -1,14 +1,12 @@
 -- Document 01, "Fixed-select mux": the part of one of two traces that is handed on, where it lies and what it holds. Assumes nothing.
 use Prim.Native.Nat.{ℕ, _+_}
 use mathlib.Core.Bool.{Bool, cond, _||_}
-use mathlib.Core.List.{List}
+use mathlib.Core.List.{List, [], _∷_}
 use lib.Dec.{eqb, ltb}
 use lib.ListN.{length, take, drop}
 use denote.Ref.{RefT, ptr, now}
+use Rattle.signals.specs.Tables.{Row, _⇐_, firstOf}
 use Rattle.signals.specs.Refusals.{accepts}
-use Rattle.signals.specs.declared.Refusal.the-variants.{OutOfRange}
-use Rattle.signals.specs.declared.Outcome.{Outcome}
-use Rattle.signals.specs.declared.Outcome.the-variants.{Accepted, Refused}
 
 -- a lent trace of control bytes
 abbrev pub Trace : Type 0
@@ -36,11 +34,12 @@ selected t0 t1 select = cond (eqb select 0) t0 t1
 abbrev pub outOfRange : ℕ → ℕ → ℕ → ℕ → Bool
 outOfRange cycles select first count = ltb 1 select || eqb count 0 || ltb cycles (first + count)
 
-abbrev pub due : Trace → Trace → ℕ → ℕ → ℕ → Outcome
-due t0 t1 select first count =
-    cond (outOfRange (length (now (selected t0 t1 select))) select first count) (Refused OutOfRange) Accepted
+abbrev pub grounds : Trace → Trace → ℕ → ℕ → ℕ → List (Row ℕ)
+grounds t0 t1 select first count =
+    8 ⇐ outOfRange (length (now (selected t0 t1 select))) select first count ∷ []
 
 -- the part of the selected trace; refused, the empty part at the start of trace 0
 abbrev pub muxed : Trace → Trace → ℕ → ℕ → ℕ → Part
 muxed t0 t1 select first count =
-    cond (accepts (due t0 t1 select first count)) (partOf (selected t0 t1 select) first count) (partOf t0 0 0)
+    cond (accepts (firstOf (grounds t0 t1 select first count))) (partOf (selected t0 t1 select) first count)
+    (partOf t0 0 0)

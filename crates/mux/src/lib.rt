@@ -13,7 +13,10 @@ fn out_of_range(cycles: usize, select: u8, first: usize, count: usize) -> bool
     if cycles < first {
         return true;
     }
-    (1 < select) | (count == 0) | (cycles - first < count)
+    if cycles - first < count {
+        return true;
+    }
+    (1 < select) | (count == 0)
 }
 
 // The part of a trace that begins at cycle first and has count cycles.
