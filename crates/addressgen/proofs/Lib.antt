@@ -1,4 +1,3 @@
 pub mod Stepping
-pub mod Writing
 pub mod Running
 pub mod Resuming

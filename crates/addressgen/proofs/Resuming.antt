@@ -2,38 +2,34 @@
 -- whose ov is at most total, and so has the state that it gives back; the rest are the laws of the iterations. Assumes nothing.
 use Prim.Native.Nat.{ℕ, _+_, _-_, _≤_, min}
 use native.Mathlib.Omega.{arith}
-use mathlib.Core.Bool.{true, false}
+use mathlib.Core.Bool.{false}
 use mathlib.Core.Logic.{⊎-elim}
+use mathlib.Core.Option.{Option, none, some}
 use mathlib.Core.Path.{_≡_, refl, sym, _∙_, ap}
-use lib.Dec.{eqb, ltb, leb}
-use borrow.Author.Tests.{ltb-true, ltb-false, leb-true, leb-false, eq-eqb, ne-eqb}
-use Rattle.signals.specs.declared.Refusal.{Refusal}
-use Rattle.signals.specs.declared.Outcome.the-variants.{Accepted, Refused}
+use lib.Dec.{eqb, leb}
+use borrow.Author.Tests.{le-ltb, ltb-false, leb-true, leb-false, eq-eqb, ne-eqb}
+use Rattle.signals.specs.Tables.{firstOf, NoneIn}
 use Rattle.signals.proofs.Bools.{either}
+use Rattle.signals.proofs.Tables.{none-keeps}
 use Rattle.addressgen.specs.declared.Settings.{Settings}
 use Rattle.addressgen.specs.declared.State.{State}
 use Rattle.addressgen.specs.Stepping.{start, after}
-use Rattle.addressgen.specs.Run.{badMask, due, iterations, ranFor, ranOf}
+use Rattle.addressgen.specs.Run.{badMask, grounds, iterations, ranFor, answerTo, ranOf}
 use Rattle.addressgen.specs.Resuming.{AreOne, RunsResume, RunsFinish}
 use Rattle.addressgen.proofs.Stepping.{after-rises, after-adds, addresses-add}
-use Rattle.addressgen.proofs.Running.{due-mask, due-state, due-accepted}
 
-not-refused : (why : Refusal) → Refused why ≡ Accepted → ⊥
-not-refused why e = let z : _≡_ {A = ℕ} 0 1 = cc in omega arith
+module _ (s : Settings) (t : State) (n room : ℕ) where
+  -- an answer without a refusal: no ground applied
+  no-ground : ranOf s t n room .refusal ≡ none → NoneIn (grounds s t n room)
+  no-ground e = none-keeps (grounds s t n room) (tells (firstOf (grounds s t n room)) e)
+    where
+      tells : (refusal : Option ℕ) → answerTo s t n refusal .refusal ≡ none → refusal ≡ none
+      tells none f = refl
+      tells (some number) f = f
 
--- what an accepted run has shown
-legal : (s : Settings) (t : State) (n room : ℕ) → due s t n room ≡ Accepted → (badMask s ≡ false) × (t .ov ≤ s .total)
-legal s t n room d = ⊎-elim illegal (λ e. (e, ⊎-elim (above e) (ltb-false (s .total) (t .ov)) (either (ltb (s .total) (t .ov))))) (either (badMask s))
-  where
-    illegal : badMask s ≡ true → (badMask s ≡ false) × (t .ov ≤ s .total)
-    illegal e = absurd (not-refused _ (sym (due-mask s t n room e) ∙ d))
-
-    above : badMask s ≡ false → ltb (s .total) (t .ov) ≡ true → t .ov ≤ s .total
-    above e h = absurd (not-refused _ (sym (due-state s t n room e (ltb-true (s .total) (t .ov) h)) ∙ d))
-
--- an accepted run answers for its iterations
-ran-accepted : (s : Settings) (t : State) (n room : ℕ) → due s t n room ≡ Accepted → ranOf s t n room ≡ ranFor s t (iterations s t n)
-ran-accepted s t n room d = rw d
+  -- with legal settings, ov at most total and room the answer is that of the iterations
+  ran-accepted : badMask s ≡ false → t .ov ≤ s .total → n ≤ room → ranOf s t n room ≡ ranFor s t (iterations s t n)
+  ran-accepted e h g = simp (e, le-ltb (s .total) (t .ov) h, le-ltb room n g)
 
 -- the smaller of n + m and what is left: first of n, then of m and what is left after that
 split-count : (n m total ov : ℕ) → min (n + m) (total - ov) ≡ min n (total - ov) + min m (total - (ov + min n (total - ov)))
@@ -70,17 +66,13 @@ module _ (s : Settings) (t : State) (n m : ℕ) where
       }
 
 pub runs-resume : RunsResume
-runs-resume s t n m room room′ room″ d h g =
-    let l = legal s t n room d in
-    rw (ran-accepted s t n room d, second (l .0) (l .1), ran-accepted s t (n + m) room″ (due-accepted s t (n + m) room″ (l .0) (l .1) g))
-    (are-one s t n m)
-  where
-    second :
-        badMask s ≡ false → t .ov ≤ s .total →
-        ranOf s (givenBack s t n) m room′ ≡ ranFor s (givenBack s t n) (iterations s (givenBack s t n) m)
-    second e o =
-        ran-accepted s (givenBack s t n) m room′
-        (due-accepted s (givenBack s t n) m room′ e (omega (arith, given-back-ov s t n)) h)
+runs-resume s t n m room room′ room″ e h g =
+    let k = no-ground s t n room e in
+    let legal : t .ov ≤ s .total = omega (arith, ltb-false) in
+    let first = ran-accepted s t n room (k .0) legal (omega (arith, ltb-false)) in
+    let second = ran-accepted s (givenBack s t n) m room′ (k .0) (omega (arith, given-back-ov s t n)) h in
+    let whole = ran-accepted s t (n + m) room″ (k .0) legal g in
+    rw (first, second, whole) (are-one s t n m)
 
 -- the smaller of n and total is total exactly when n reaches it
 reaches : (n total ov : ℕ) → ov ≡ 0 + min n (total - 0) → eqb ov total ≡ leb total n
@@ -91,7 +83,7 @@ reaches n total ov e =
 
 pub runs-finish : RunsFinish
 runs-finish s n room e h =
-    rw (ran-accepted s start n room (due-accepted s start n room e (omega arith) h))
+    rw (ran-accepted s start n room e (omega arith) h)
     (record {
       accepted = refl;
       done = reaches n (s .total) (givenBack s start n .ov) (given-back-ov s start n);

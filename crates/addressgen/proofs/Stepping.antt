@@ -2,13 +2,13 @@
 -- Each is by induction over the iterations. Assumes nothing.
 use Prim.Native.Nat.{ℕ, zero, suc, _+_}
 use native.Mathlib.Nat.{add-zero, add-suc}
+use native.Mathlib.Numerals.{add-one}
 use native.Mathlib.Omega.{arith}
 use mathlib.Core.Bool.{true, false, not, _||_}
 use mathlib.Core.List.{_++_, append-assoc, append-nil}
 use mathlib.Core.Logic.{⊎-elim}
-use mathlib.Core.Path.{_≡_, refl}
+use mathlib.Core.Path.{_≡_}
 use lib.Dec.{ltb}
-use lib.ListN.{length, length-append}
 use Rattle.signals.proofs.Bools.{either}
 use Rattle.addressgen.specs.declared.Settings.{Settings}
 use Rattle.addressgen.specs.declared.State.{State}
@@ -40,9 +40,9 @@ module _ (s : Settings) (t : State) where
   after-rises zero = omega arith
   after-rises (suc n) = omega (arith, next-rises s (after s t n), after-rises n)
 
-  pub length-addresses : (n : ℕ) → length (addresses s t n) ≡ n
-  length-addresses zero = refl
-  length-addresses (suc n) = simp (length-append, length-addresses n) (omega arith)
+  -- one iteration more
+  pub steps-on : (n : ℕ) (here there : State) → here ≡ after s t n → there ≡ next s here → there ≡ after s t (n + 1)
+  steps-on n here there e f = rw (add-one n, f, e)
 
   -- n iterations and then m
   pub after-adds : (n m : ℕ) → after s t (n + m) ≡ after s (after s t n) m

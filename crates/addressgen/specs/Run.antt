@@ -1,15 +1,14 @@
 -- Document 01, "Address generator": what a run for up to n addresses answers, and what it leaves in the lent buffer.
 -- Assumes nothing.
 use Prim.Native.Nat.{ℕ, _+_, _-_, min}
-use mathlib.Core.Bool.{Bool, false, cond, _&&_, _||_}
-use mathlib.Core.List.{List, _++_}
+use mathlib.Core.Bool.{Bool, false, _&&_, _||_}
+use mathlib.Core.List.{List, [], _∷_, _++_}
+use mathlib.Core.Option.{Option, none, some}
 use mathlib.Core.Path.{_≡_}
 use lib.Dec.{eqb, ltb}
 use lib.ListN.{length, drop}
-use Rattle.signals.specs.declared.Refusal.{Refusal}
-use Rattle.signals.specs.declared.Refusal.the-variants.{BadMask, BadState, OutputTooShort}
-use Rattle.signals.specs.declared.Outcome.{Outcome}
-use Rattle.signals.specs.declared.Outcome.the-variants.{Accepted, Refused}
+use Rattle.signals.specs.Tables.{Row, _⇐_, firstOf}
+use Rattle.signals.specs.Refusals.{refusalOf}
 use Rattle.addressgen.specs.declared.Settings.{Settings}
 use Rattle.addressgen.specs.declared.State.{State}
 use Rattle.addressgen.specs.declared.Ran.{Ran}
@@ -24,35 +23,44 @@ abbrev pub badMask : Settings → Bool
 badMask s = ltb maxMask (s .mask) || bit0 s && eqb (s .d0) 0 || bit0 s && bit1 s && eqb (s .d1) 0
 
 -- refusals 10, 6 and 7 in this order; 6: ov above total; 7: under n words of room
-abbrev pub due : Settings → State → ℕ → ℕ → Outcome
-due s t n room =
-    cond (badMask s) (Refused BadMask)
-    (cond (ltb (s .total) (t .ov)) (Refused BadState)
-    (cond (ltb room n) (Refused OutputTooShort) Accepted))
+abbrev pub grounds : Settings → State → ℕ → ℕ → List (Row ℕ)
+grounds s t n room = 10 ⇐ badMask s ∷ 6 ⇐ ltb (s .total) (t .ov) ∷ 7 ⇐ ltb room n ∷ []
+
+-- What a run answers, in document 01's numbers: the refusal, if there is one, how many iterations it made, the state afterwards, and done.
+pub record Answer : Type 0 where
+  pub refusal : Option ℕ
+  pub count : ℕ
+  pub state : State
+  pub done : Bool
+
+-- the code's answer in these numbers
+abbrev pub answerOf : Ran → Answer
+answerOf ran =
+    record { refusal = refusalOf (ran .outcome); count = ran .count; state = ran .state; done = ran .done }
 
 -- how many iterations are made when up to n are asked for: the smaller of n and total - ov
 abbrev pub iterations : Settings → State → ℕ → ℕ
 iterations s t n = min n (s .total - t .ov)
 
 -- a run of so many iterations: the state after them; done is ov = total
-abbrev pub ranFor : Settings → State → ℕ → Ran
+abbrev pub ranFor : Settings → State → ℕ → Answer
 ranFor s t count =
-    record { outcome = Accepted; count = count; state = after s t count; done = eqb (after s t count .ov) (s .total) }
+    record { refusal = none; count = count; state = after s t count; done = eqb (after s t count .ov) (s .total) }
 
 -- a refused run: no iteration, the state as given, not done
-abbrev pub refusedRun : State → Refusal → Ran
-refusedRun t why = record { outcome = Refused why; count = 0; state = t; done = false }
+abbrev pub refusedRun : State → ℕ → Answer
+refusedRun t number = record { refusal = some number; count = 0; state = t; done = false }
 
-abbrev pub answerTo : Settings → State → ℕ → Outcome → Ran
-answerTo s t n Accepted = ranFor s t (iterations s t n)
-answerTo s t n (Refused why) = refusedRun t why
+abbrev pub answerTo : Settings → State → ℕ → (refusal : Option ℕ) → Answer
+answerTo s t n none = ranFor s t (iterations s t n)
+answerTo s t n (some number) = refusedRun t number
 
-abbrev pub ranOf : Settings → State → ℕ → ℕ → Ran
-ranOf s t n room = answerTo s t n (due s t n room)
+abbrev pub ranOf : Settings → State → ℕ → ℕ → Answer
+ranOf s t n room = answerTo s t n (firstOf (grounds s t n room))
 
 -- what a run answers; its count is the rise of ov; and what its buffer holds afterwards: the addresses of so many iterations, and
 -- past them what it had before
-pub record Generated (s : Settings) (t : State) (n : ℕ) (before left : List ℕ) (answered : Ran) : Type 0 where
-  pub answer : answered ≡ ranOf s t n (length before)
-  pub rise : answered .state .ov ≡ t .ov + answered .count
-  pub written : left ≡ addresses s t (answered .count) ++ drop (answered .count) before
+pub record Generated (s : Settings) (t : State) (n : ℕ) (before left : List ℕ) (ran : Ran) : Type 0 where
+  pub answer : answerOf ran ≡ ranOf s t n (length before)
+  pub rise : ran .state .ov ≡ t .ov + ran .count
+  pub written : left ≡ addresses s t (ran .count) ++ drop (ran .count) before

@@ -2,8 +2,9 @@
 -- Assumes nothing.
 use Prim.Native.Nat.{ℕ, zero, suc, _+_, _/_, _%_, _^_}
 use mathlib.Core.Bool.{Bool, cond, not, _||_}
-use mathlib.Core.List.{List, [], _∷_, _++_}
+use mathlib.Core.List.{List}
 use lib.Dec.{eqb, ltb}
+use Rattle.signals.specs.Sequences.{entriesBelow}
 use Rattle.addressgen.specs.declared.Settings.{Settings}
 use Rattle.addressgen.specs.declared.State.{State}
 
@@ -47,5 +48,4 @@ after s t (suc n) = next s (after s t n)
 
 -- the addresses that so many iterations yield
 abbrev pub addresses : Settings → State → ℕ → List ℕ
-addresses s t zero = []
-addresses s t (suc n) = addresses s t n ++ (address s (after s t n) ∷ [])
+addresses s t n = entriesBelow (λ i. address s (after s t i)) n

@@ -5,8 +5,9 @@ ghost use mathlib.Core.Path.{_≡_};
 ghost use mathlib.Core.List.{_++_};
 ghost use Prim.Native.Nat.{_-_, _≤_, _<_};
 ghost use lib.ListN.{length, drop};
+ghost use Rattle.signals.specs.Refusals.{numberOf};
 ghost use Rattle.addressgen.specs.Stepping.{_⊕_, bit0, bit1, start, address, next, after, addresses};
-ghost use Rattle.addressgen.specs.Run.{badMask, iterations, refusedRun, Generated};
+ghost use Rattle.addressgen.specs.Run.{badMask, iterations, answerOf, refusedRun, Generated};
 
 // The largest legal mask: two bits.
 pub const MAX_MASK: u8 = 3;
@@ -71,14 +72,14 @@ impl State {
 
 impl Settings {
     // Mask bit 0: whether addresses run in more than one dimension.
-    fn planar(self) -> bool
+    fn bit0(self) -> bool
         ensures { λ r. ⌜ r ≡ bit0 self ⌝ }
     {
         self.mask % 2 == 1
     }
 
     // Mask bit 1: whether they then run in all three.
-    fn spatial(self) -> bool
+    fn bit1(self) -> bool
         ensures { λ r. ⌜ r ≡ bit1 self ⌝ }
     {
         self.mask / 2 % 2 == 1
@@ -87,8 +88,8 @@ impl Settings {
     fn bad_mask(self) -> bool
         ensures { λ r. ⌜ r ≡ badMask self ⌝ }
     {
-        let bit0 = self.planar();
-        let bit1 = self.spatial();
+        let bit0 = self.bit0();
+        let bit1 = self.bit1();
         (MAX_MASK < self.mask) | (bit0 & (self.d0 == 0)) | (bit0 & bit1 & (self.d1 == 0))
     }
 
@@ -97,11 +98,11 @@ impl Settings {
         ensures { λ r. ⌜ r ≡ address self state ⌝ }
     {
         let along0 = plus(self.base, state.a0);
-        if !self.planar() {
+        if !self.bit0() {
             return along0;
         }
         let along1 = plus(along0, state.a1);
-        if !self.spatial() {
+        if !self.bit1() {
             return along1;
         }
         plus(along1, state.a2)
@@ -112,7 +113,7 @@ impl Settings {
         requires { ⌜ state .ov < self .total ⌝ }
         ensures { λ r. ⌜ r ≡ next self state ⌝ }
     {
-        if (state.c0 < self.d0) | !self.planar() {
+        if (state.c0 < self.d0) | !self.bit0() {
             return State {
                 a0: plus(state.a0, self.s0),
                 a1: state.a1,
@@ -122,7 +123,7 @@ impl Settings {
                 ov: state.ov + 1,
             };
         }
-        if (state.c1 < self.d1) | !self.spatial() {
+        if (state.c1 < self.d1) | !self.bit1() {
             return State {
                 a0: 0,
                 a1: plus(state.a1, self.s1),
@@ -171,7 +172,7 @@ fn fill(settings: Settings, state: State, count: usize, out: &mut [u32]) -> Stat
 }
 
 fn refused(state: State, why: signals::Refusal) -> Ran
-    ensures { λ r. ⌜ r ≡ refusedRun state why ⌝ }
+    ensures { λ r. ⌜ answerOf r ≡ refusedRun state (numberOf why) ⌝ }
 {
     Ran {
         outcome: signals::Outcome::Refused(why),

@@ -7,9 +7,9 @@ use mathlib.Core.Path.{_≡_, ap}
 use lib.ListN.{length, drop, length-set}
 use borrow.Author.Needs.{needs}
 use Rattle.addressgen.specs.declared.State.{State}
+use Rattle.signals.proofs.Writing.{writes-next}
 use Rattle.addressgen.specs.Stepping.{after, addresses}
-use Rattle.addressgen.proofs.Stepping.{after-rises}
-use Rattle.addressgen.proofs.Writing.{steps-on, writes-next}
+use Rattle.addressgen.proofs.Stepping.{after-rises, steps-on}
 use Rattle.addressgen.proofs.fill.Statement.{statement}
 use Rattle.addressgen.proofs.fill.Tie as tie
 
@@ -47,7 +47,12 @@ loop-less c = omega arith
 loop-again : tie.Need-loop-again Inv-loop μ-loop
 loop-again c =
     let l = c .before .before .before .loop in
-    (omega arith, simp length-set (omega arith), steps-on _ _ _ (l .i) (l .inv .2) _ (c .next .ensures), writes-next _ _ _ (l .i) (l .inv .2) _ _ (omega arith) (l .inv .3) _ (c .before .address .ensures))
+    let word = rw (l .inv .2) at (c .before .address .ensures) in (
+      omega arith,
+      simp length-set (omega arith),
+      steps-on _ _ (l .i) _ _ (l .inv .2) (c .next .ensures),
+      writes-next _ (l .i) _ _ (omega arith) (l .inv .3) _ word,
+    )
 
 same-length : tie.Need-same-length Inv-loop μ-loop
 same-length c = search needs

@@ -1,8 +1,11 @@
--- `addressgen::run` meets its contract: after each test the outcome that is due, and with it what the run promises.
+-- `addressgen::run` meets its contract: its tests are those of the refusals, in order, and `fill` makes the iterations.
 -- Assumes nothing.
+use native.Mathlib.Omega.{arith}
 use mathlib.Core.Path.{sym, _∙_}
-use Rattle.addressgen.proofs.Running.{due-mask, due-state, due-short, due-accepted, refused-run, accepted-run}
+use lib.ListN.{length}
 use borrow.Author.Needs.{needs}
+use borrow.Author.Tests.{lt-ltb, le-ltb}
+use Rattle.addressgen.proofs.Running.{refused-run, accepted-run}
 use Rattle.addressgen.proofs.run.Statement.{statement}
 use Rattle.addressgen.proofs.run.Tie as tie
 
@@ -14,24 +17,33 @@ refused-requires c κs = search needs
 
 returns : tie.Need-returns
 returns c =
-    let a = c .before .before .before .before .args in
-    refused-run (a .settings) (a .state) (a .n) (a .out .now) _ (due-mask (a .settings) (a .state) (a .n) _ (sym (c .before .before .bad-mask .ensures) ∙ c .before .if1 .taken)) _ (c .refused .ensures)
+    let tested = c .before in
+    let a = tested .before .before .before .args in
+    let mask = sym (tested .before .bad-mask .ensures) ∙ tested .if1 .taken in
+    refused-run (a .settings) (a .state) (a .n) (a .out .now) _ (simp mask) _ (c .refused .ensures)
 
 refused-requires-2 : tie.Need-refused-requires-2
 refused-requires-2 c κs = search needs
 
 returns-2 : tie.Need-returns-2
 returns-2 c =
-    let a = c .before .before .before .before .before .before .before .args in
-    refused-run (a .settings) (a .state) (a .n) (a .out .now) _ (due-state (a .settings) (a .state) (a .n) _ (sym (c .before .before .before .before .before .bad-mask .ensures) ∙ c .before .before .before .before .if1 .left) (c .before .if2 .taken)) _ (c .refused2 .ensures)
+    let tested = c .before .before .before .before in
+    let a = tested .before .before .before .args in
+    let mask = sym (tested .before .bad-mask .ensures) ∙ tested .if1 .left in
+    let above = lt-ltb (a .settings .total) (a .state .ov) (omega arith) in
+    refused-run (a .settings) (a .state) (a .n) (a .out .now) _ (simp (mask, above)) _ (c .refused2 .ensures)
 
 refused-requires-3 : tie.Need-refused-requires-3
 refused-requires-3 c κs = search needs
 
 returns-3 : tie.Need-returns-3
 returns-3 c =
-    let a = c .before .before .before .before .before .before .before .before .args in
-    refused-run (a .settings) (a .state) (a .n) (a .out .now) _ (due-short (a .settings) (a .state) (a .n) _ (sym (c .before .before .before .before .before .before .bad-mask .ensures) ∙ c .before .before .before .before .before .if1 .left) (c .before .before .if2 .left) (c .before .if3 .taken)) _ (c .refused3 .ensures)
+    let tested = c .before .before .before .before .before in
+    let a = tested .before .before .before .args in
+    let mask = sym (tested .before .bad-mask .ensures) ∙ tested .if1 .left in
+    let legal = le-ltb (a .settings .total) (a .state .ov) (omega arith) in
+    let short = lt-ltb (length (a .out .now)) (a .n) (omega arith) in
+    refused-run (a .settings) (a .state) (a .n) (a .out .now) _ (simp (mask, legal, short)) _ (c .refused3 .ensures)
 
 iterations-requires : tie.Need-iterations-requires
 iterations-requires c κs = search needs
@@ -44,9 +56,14 @@ same-length c = search needs
 
 returns-4 : tie.Need-returns-4
 returns-4 c =
-    let a = c .before .before .before .before .before .before .before .before .before .before .before .before .before .before .args in
-    accepted-run (a .settings) (a .state) (a .n) (a .out .now) (due-accepted (a .settings) (a .state) (a .n) _ (sym (c .before .before .before .before .before .before .before .before .before .before .before .before .bad-mask .ensures) ∙ c .before .before .before .before .before .before .before .before .before .before .before .if1 .left) (c .before .before .before .before .before .before .before .before .if2 .left) (c .before .before .before .before .before .before .before .if3 .left))
-    _ (c .before .before .before .before .before .before .iterations .ensures) _ (c .before .before .before .before .fill .ensures .0) _ (c .before .before .before .before .fill .ensures .1)
+    let tested = c .before .before .before .before .before .before .before .before .before .before .before in
+    let a = tested .before .before .before .args in
+    let mask = sym (tested .before .bad-mask .ensures) ∙ tested .if1 .left in
+    let legal = le-ltb (a .settings .total) (a .state .ov) (omega arith) in
+    let room = le-ltb (length (a .out .now)) (a .n) (omega arith) in
+    let filled = c .before .before .before .before .fill .ensures in
+    accepted-run (a .settings) (a .state) (a .n) (a .out .now) (simp (mask, legal, room))
+    _ (c .before .before .before .before .before .before .iterations .ensures) _ (filled .0) _ (filled .1)
 
 pub run-spec : {M : Type 1} → statement M
 run-spec =

@@ -3,14 +3,14 @@ use borrow.Author.Needs.{needs}
 use Rattle.addressgen.proofs.Settings.bad_mask.Statement.{statement}
 use Rattle.addressgen.proofs.Settings.bad_mask.Tie as tie
 
-planar-requires : tie.Need-planar-requires
-planar-requires c κs = search needs
+bit0-requires : tie.Need-bit0-requires
+bit0-requires c κs = search needs
 
-spatial-requires : tie.Need-spatial-requires
-spatial-requires c κs = search needs
+bit1-requires : tie.Need-bit1-requires
+bit1-requires c κs = search needs
 
 returns : tie.Need-returns
-returns c = simp (c .before .before .before .before .planar .ensures, c .before .before .before .spatial .ensures)
+returns c = simp (c .before .before .before .before .bit0 .ensures, c .before .before .before .bit1 .ensures)
 
 pub bad-mask-spec : {M : Type 1} → statement M
-bad-mask-spec = tie.close (tie.spec planar-requires spatial-requires returns)
+bad-mask-spec = tie.close (tie.spec bit0-requires bit1-requires returns)
