@@ -61,8 +61,8 @@ module _ (controls words : List ℕ) (seqOn : Bool) (few : length controls ≤ m
       let cycles = decimal-four n (omega arith) in
       let at = decimal-four c (omega arith) in
       let rule =
-          rule-short seqOn (between breaksHeld trace c) (between breaksStable trace c) (breaksSeq trace c) r
-          (first-some (rules seqOn trace c) r (breach .rule)) in
+      rule-short seqOn (between breaksHeld trace c) (between breaksStable trace c) (breaksSeq trace c) r
+      (first-some (rules seqOn trace c) r (breach .rule)) in
       simp length-append (omega arith)
 
   checked-short : length (lines n (checkStream controls words seqOn)) ≤ maxReport

@@ -1,35 +1,29 @@
 -- The answers of the checkers in numbers. Assumes nothing.
-use Prim.Native.Nat.{ℕ}
-use mathlib.Core.Bool.{Bool}
-use Rattle.signals.specs.Written.{Written}
-use Rattle.stream_checker.specs.declared.Checked as stream
-use Rattle.stream_checker.specs.declared.Verdict as ofStream
-use Rattle.stream_checker.specs.Written as writtenStream
-use Rattle.mem_checker.specs.declared.Checked as mem
-use Rattle.mem_checker.specs.declared.Verdict as ofMem
-use Rattle.mem_checker.specs.Written as writtenMem
+use Rattle.signals.specs.Written.{Judgement}
+use Rattle.mem_checker.specs.Verdicts.{Answer}
 use Rattle.exports.specs.declared.checkers.StreamVerdict.{StreamVerdict}
 use Rattle.exports.specs.declared.checkers.MemVerdict.{MemVerdict}
-use Rattle.exports.specs.Numbers.{wordNumber, ruleNumber}
+use Rattle.exports.specs.Numbers.{InFour, inFour}
 
-abbrev pub streamVerdict : ofStream.Verdict → ℕ → StreamVerdict
-streamVerdict verdict handshakes =
-    let w : Written = writtenStream.written verdict in
-    record { verdict = wordNumber (w .verdict); rule = ruleNumber (w .rule); cycle = w .cycle; handshakes = handshakes }
-
-abbrev pub streamNumbers : stream.Checked → StreamVerdict
-streamNumbers checked = streamVerdict (checked .verdict) (checked .handshakes)
-
-abbrev pub memVerdict : ofMem.Verdict → ℕ → Bool → MemVerdict
-memVerdict verdict handshakes isOpen =
-    let w : Written = writtenMem.written verdict in
+abbrev pub streamNumbers : Judgement → StreamVerdict
+streamNumbers j =
+    let v : InFour = inFour (j .verdict) in
     record {
-      verdict = wordNumber (w .verdict);
-      rule = ruleNumber (w .rule);
-      cycle = w .cycle;
-      handshakes = handshakes;
-      «open» = isOpen;
+      refusal = v .refusal;
+      verdict = v .verdict;
+      rule = v .rule;
+      cycle = v .cycle;
+      handshakes = j .handshakes;
     }
 
-abbrev pub memNumbers : mem.Checked → MemVerdict
-memNumbers checked = memVerdict (checked .verdict) (checked .handshakes) (checked .«open»)
+abbrev pub memNumbers : Answer → MemVerdict
+memNumbers a =
+    let v : InFour = inFour (a .judgement .verdict) in
+    record {
+      refusal = v .refusal;
+      verdict = v .verdict;
+      rule = v .rule;
+      cycle = v .cycle;
+      handshakes = a .judgement .handshakes;
+      «open» = a .«open»;
+    }

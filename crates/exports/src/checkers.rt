@@ -7,23 +7,24 @@ ghost use Rattle.mem_checker.specs.Verdicts.{checkMem};
 ghost use Rattle.stream_checker.specs.Written as writtenStream;
 ghost use Rattle.mem_checker.specs.Written as writtenMem;
 ghost use Rattle.exports.specs.Numbers.{ruleNumber};
-ghost use Rattle.exports.specs.Verdicts.{streamVerdict, streamNumbers, memVerdict, memNumbers};
+ghost use Rattle.exports.specs.Verdicts.{streamNumbers, memNumbers};
 
-// The verdicts' numbers.
-const CLEAN: u8 = 0;
+// The verdicts' numbers: 0 is none, for a trace that is refused.
+const NONE: u8 = 0;
 
-const BROKEN: u8 = 1;
+const CLEAN: u8 = 1;
 
-const REFUSED: u8 = 2;
+const BROKEN: u8 = 2;
 
 // The numbers of rules seq and align.
 const SEQ: u8 = 100;
 
 const ALIGN: u8 = 101;
 
-// A verdict on a stream's trace. Clean has rule 0 and cycle 0; refused, the rule is the refusal's number.
+// A verdict on a stream's trace. Rule and cycle are 0 unless it is broken.
 #[repr(C)]
 pub struct StreamVerdict {
+    pub refusal: u8,
     pub verdict: u8,
     pub rule: u8,
     pub cycle: u32,
@@ -33,6 +34,7 @@ pub struct StreamVerdict {
 // A verdict on a memory trace, and whether a read is still open.
 #[repr(C)]
 pub struct MemVerdict {
+    pub refusal: u8,
     pub verdict: u8,
     pub rule: u8,
     pub cycle: u32,
@@ -60,55 +62,63 @@ fn mem_rule(rule: mem_checker::Rule) -> u8
     }
 }
 
-fn stream_verdict(verdict: stream_checker::Verdict, handshakes: u32) -> StreamVerdict
-    ensures { λ r. ⌜ r ≡ streamVerdict verdict handshakes ⌝ }
+fn stream_numbers(checked: stream_checker::Checked) -> StreamVerdict
+    ensures { λ r. ⌜ r ≡ streamNumbers (writtenStream.written checked) ⌝ }
 {
+    let verdict = checked.verdict;
     match verdict {
         stream_checker::Verdict::Clean => StreamVerdict {
+            refusal: 0,
             verdict: CLEAN,
             rule: 0,
             cycle: 0,
-            handshakes,
+            handshakes: checked.handshakes,
         },
         stream_checker::Verdict::Broken(rule, cycle) => StreamVerdict {
+            refusal: 0,
             verdict: BROKEN,
             rule: stream_rule(rule),
             cycle,
-            handshakes,
+            handshakes: checked.handshakes,
         },
         stream_checker::Verdict::Refused(why) => StreamVerdict {
-            verdict: REFUSED,
-            rule: why.number(),
+            refusal: why.number(),
+            verdict: NONE,
+            rule: 0,
             cycle: 0,
-            handshakes,
+            handshakes: checked.handshakes,
         },
     }
 }
 
-fn mem_verdict(verdict: mem_checker::Verdict, handshakes: u32, open: bool) -> MemVerdict
-    ensures { λ r. ⌜ r ≡ memVerdict verdict handshakes «open» ⌝ }
+fn mem_numbers(checked: mem_checker::Checked) -> MemVerdict
+    ensures { λ r. ⌜ r ≡ memNumbers (writtenMem.written checked) ⌝ }
 {
+    let verdict = checked.verdict;
     match verdict {
         mem_checker::Verdict::Clean => MemVerdict {
+            refusal: 0,
             verdict: CLEAN,
             rule: 0,
             cycle: 0,
-            handshakes,
-            open,
+            handshakes: checked.handshakes,
+            open: checked.open,
         },
         mem_checker::Verdict::Broken(rule, cycle) => MemVerdict {
+            refusal: 0,
             verdict: BROKEN,
             rule: mem_rule(rule),
             cycle,
-            handshakes,
-            open,
+            handshakes: checked.handshakes,
+            open: checked.open,
         },
         mem_checker::Verdict::Refused(why) => MemVerdict {
-            verdict: REFUSED,
-            rule: why.number(),
+            refusal: why.number(),
+            verdict: NONE,
+            rule: 0,
             cycle: 0,
-            handshakes,
-            open,
+            handshakes: checked.handshakes,
+            open: checked.open,
         },
     }
 }
@@ -117,9 +127,7 @@ fn mem_verdict(verdict: mem_checker::Verdict, handshakes: u32, open: bool) -> Me
 pub extern "C" fn floealder_check_stream(control: &[u8], data: &[u32], seq: bool) -> StreamVerdict
     ensures { λ r. ⌜ r ≡ streamNumbers (checkStream (now (control .entry)) (now («data» .entry)) seq) ⌝ }
 {
-    let checked = stream_checker::check_stream(control, data, seq);
-    let verdict = checked.verdict;
-    stream_verdict(verdict, checked.handshakes)
+    stream_numbers(stream_checker::check_stream(control, data, seq))
 }
 
 #[no_mangle]
@@ -131,9 +139,7 @@ pub extern "C" fn floealder_check_mem(
 ) -> MemVerdict
     ensures { λ r. ⌜ r ≡ memNumbers (checkMem mem (now (control .entry)) (now (add .entry)) (length (now («data» .entry))) (length (now («r_data» .entry)))) ⌝ }
 {
-    let checked = mem_checker::check_mem(control, add, data, r_data);
-    let verdict = checked.verdict;
-    mem_verdict(verdict, checked.handshakes, checked.open)
+    mem_numbers(mem_checker::check_mem(control, add, data, r_data))
 }
 
 #[no_mangle]
@@ -145,7 +151,5 @@ pub extern "C" fn floealder_check_mem_decoupled(
 ) -> MemVerdict
     ensures { λ r. ⌜ r ≡ memNumbers (checkMem memDecoupled (now (control .entry)) (now (add .entry)) (length (now («data» .entry))) (length (now («r_data» .entry)))) ⌝ }
 {
-    let checked = mem_checker::check_mem_decoupled(control, add, data, r_data);
-    let verdict = checked.verdict;
-    mem_verdict(verdict, checked.handshakes, checked.open)
+    mem_numbers(mem_checker::check_mem_decoupled(control, add, data, r_data))
 }

@@ -1,8 +1,8 @@
 // A FIFO, document 01's stage, and a chain of FIFOs, its line.
 ghost use mathlib.Core.Path.{_≡_};
-ghost use Rattle.fifo.specs.Queue.{isWell, readyOf};
+ghost use Rattle.fifo.specs.Queue.{isWell};
 ghost use Rattle.fifo.specs.Promises as ofFifo;
-ghost use Rattle.fifo.specs.Promises.{value, trusted, Steps};
+ghost use Rattle.fifo.specs.Promises.{value, Steps};
 ghost use Rattle.chain.specs.Promises as ofChain;
 ghost use Rattle.chain.specs.Promises.{Promised, stepDone, runDone};
 ghost use Rattle.exports.specs.Numbers.{InNumbers};
@@ -75,40 +75,7 @@ pub extern "C" fn floealder_fifo_step(
 ) -> FifoStep
     ensures { λ r. ⌜ InNumbers (λ w. Steps value fifo valid payload sink clear w) stepNumbers r ⌝ }
 {
-    fifo_numbers(fifo.step(valid, payload, sink, clear))
-}
-
-#[no_mangle]
-pub extern "C" fn floealder_fifo_step_trusted(
-    fifo: Fifo,
-    valid: bool,
-    payload: Payload,
-    sink: bool,
-    clear: bool,
-) -> FifoStep
-    ensures { λ r. ⌜ InNumbers (λ w. Steps trusted fifo valid payload sink clear w) stepNumbers r ⌝ }
-{
-    fifo_numbers(fifo.step_trusted(valid, payload, sink, clear))
-}
-
-#[no_mangle]
-pub extern "C" fn floealder_fifo_is_well(fifo: Fifo) -> bool
-    ensures { λ r. ⌜ r ≡ isWell (value fifo) ⌝ }
-{
-    fifo.is_well()
-}
-
-#[no_mangle]
-pub extern "C" fn floealder_fifo_is_ready(fifo: Fifo) -> bool
-    ensures { λ r. ⌜ r ≡ readyOf (trusted fifo) ⌝ }
-{
-    fifo.is_ready()
-}
-
-// A step's answer in numbers.
-fn fifo_numbers(stepped: fifo::Stepped) -> FifoStep
-    ensures { λ r. ⌜ r ≡ stepNumbers stepped ⌝ }
-{
+    let stepped = fifo.step(valid, payload, sink, clear);
     let outcome = stepped.outcome;
     let shown = stepped.payload;
     let next = stepped.next;
@@ -119,6 +86,13 @@ fn fifo_numbers(stepped: fifo::Stepped) -> FifoStep
         payload: shown,
         next,
     }
+}
+
+#[no_mangle]
+pub extern "C" fn floealder_fifo_is_well(fifo: Fifo) -> bool
+    ensures { λ r. ⌜ r ≡ isWell (value fifo) ⌝ }
+{
+    fifo.is_well()
 }
 
 #[no_mangle]

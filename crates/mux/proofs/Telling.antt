@@ -43,3 +43,24 @@ refused-is-empty t0 t1 select first count = ⊎-elim refused accepted (either pa
 
     accepted : past ≡ false → Told
     accepted f = (λ e. absurd (not-refused (simp f at e)), λ e. absurd (not-empty f (simp f at e)))
+
+-- and one that is not empty is accepted, with as many cycles as were asked for
+pub accepted-is-long :
+    (t0 t1 : Trace) (select first count : ℕ) → (muxed t0 t1 select first count .bytes ≡ [] → ⊥) →
+    (firstOf (grounds t0 t1 select first count) ≡ none) × (length (muxed t0 t1 select first count .bytes) ≡ count)
+accepted-is-long t0 t1 select first count full = ⊎-elim refused accepted (either past)
+  where
+    chosen : List ℕ
+    chosen = now (selected t0 t1 select)
+
+    past : Bool
+    past = outOfRange (length chosen) select first count
+
+    Long : Type 0
+    Long = (firstOf (grounds t0 t1 select first count) ≡ none) × (length (muxed t0 t1 select first count .bytes) ≡ count)
+
+    refused : past ≡ true → Long
+    refused t = absurd (full (simp t))
+
+    accepted : past ≡ false → Long
+    accepted f = (simp f, simp f (length-part chosen first count (in-range (length chosen) select first count f .1)))

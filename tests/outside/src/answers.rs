@@ -1,9 +1,9 @@
 //! What the calls take and answer, as they pass through C, in the numbers of document 01.
 
-/// Verdicts by number.
-pub const CLEAN: u8 = 0;
-pub const BROKEN: u8 = 1;
-pub const REFUSED: u8 = 2;
+/// Verdicts by number: none where the trace is refused.
+pub const NONE: u8 = 0;
+pub const CLEAN: u8 = 1;
+pub const BROKEN: u8 = 2;
 
 /// The two rules that have a name and no number.
 pub const SEQ: u8 = 100;
@@ -12,10 +12,11 @@ pub const ALIGN: u8 = 101;
 pub const MAX_DEPTH: usize = 16;
 pub const MAX_FIFOS: usize = 8;
 
-/// The verdict on a stream's trace; refused, `rule` is the refusal's number.
+/// The verdict on a stream's trace; rule and cycle are 0 unless it is broken.
 #[repr(C)]
 #[derive(Clone, Copy, PartialEq, Eq, Debug)]
 pub struct StreamAnswer {
+    pub refusal: u8,
     pub verdict: u8,
     pub rule: u8,
     pub cycle: u32,
@@ -26,6 +27,7 @@ pub struct StreamAnswer {
 #[repr(C)]
 #[derive(Clone, Copy, PartialEq, Eq, Debug)]
 pub struct MemAnswer {
+    pub refusal: u8,
     pub verdict: u8,
     pub rule: u8,
     pub cycle: u32,

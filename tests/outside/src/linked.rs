@@ -40,15 +40,7 @@ extern "C" {
         sink: bool,
         clear: bool,
     ) -> Stepped<Fifo>;
-    fn floealder_fifo_step_trusted(
-        fifo: Fifo,
-        valid: bool,
-        payload: Payload,
-        sink: bool,
-        clear: bool,
-    ) -> Stepped<Fifo>;
     fn floealder_fifo_is_well(fifo: Fifo) -> bool;
-    fn floealder_fifo_is_ready(fifo: Fifo) -> bool;
     fn floealder_stream_fields(control: u8) -> StreamFields;
     fn floealder_any_reserved(control: *const u8, controls: usize) -> bool;
     fn floealder_memory_fields(control: u8) -> MemFields;
@@ -83,7 +75,7 @@ extern "C" {
         count: usize,
         out: *mut u8,
         room: usize,
-    ) -> usize;
+    ) -> Filled;
     fn floealder_addressgen_start() -> State;
     fn floealder_addressgen_run(
         settings: Settings,
@@ -148,22 +140,8 @@ pub fn fifo_step(f: Fifo, valid: bool, p: Payload, sink: bool, clear: bool) -> S
     unsafe { floealder_fifo_step(f, valid, p, sink, clear) }
 }
 
-pub fn fifo_step_trusted(
-    f: Fifo,
-    valid: bool,
-    p: Payload,
-    sink: bool,
-    clear: bool,
-) -> Stepped<Fifo> {
-    unsafe { floealder_fifo_step_trusted(f, valid, p, sink, clear) }
-}
-
 pub fn fifo_is_well(f: Fifo) -> bool {
     unsafe { floealder_fifo_is_well(f) }
-}
-
-pub fn fifo_is_ready(f: Fifo) -> bool {
-    unsafe { floealder_fifo_is_ready(f) }
 }
 
 pub fn stream_fields(control: u8) -> StreamFields {
@@ -209,14 +187,14 @@ pub fn chain_run(
     }
 }
 
-/// The part's length; its bytes are copied to the output's start, as many as fit.
+/// The part's length; its bytes are copied to the output's start.
 pub fn mux_static(
     traces: [&[u8]; 2],
     select: u8,
     first: usize,
     count: usize,
     out: &mut [u8],
-) -> usize {
+) -> Filled {
     unsafe {
         floealder_mux_static(
             traces[0].as_ptr(),

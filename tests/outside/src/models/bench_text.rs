@@ -1,7 +1,7 @@
 //! "Bench text": the report of a text.
 
 use super::stream::check_stream;
-use crate::answers::{Filled, BROKEN, CLEAN, REFUSED, SEQ};
+use crate::answers::{Filled, BROKEN, CLEAN, NONE, SEQ};
 
 const MAX_ANNOUNCED: usize = 4_096;
 
@@ -83,7 +83,7 @@ pub fn report_of(text: &[u8]) -> String {
     let verdict = match answer.verdict {
         CLEAN => "clean",
         BROKEN => "broken",
-        REFUSED => return refused(answer.rule),
+        NONE => return refused(answer.refusal),
         other => unreachable!("verdict {other}"),
     };
     let rule = match answer.rule {

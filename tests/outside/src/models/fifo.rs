@@ -45,11 +45,6 @@ impl Stage {
 
     /// The value of a stage as it is kept, unless its form is broken.
     pub fn of(fifo: &Fifo) -> Option<Self> {
-        Stage::trusted(fifo).filter(|stage| stage.held.iter().all(|p| p.strb <= 15))
-    }
-
-    /// The same by the numbers alone: held strobes are not looked at.
-    pub fn trusted(fifo: &Fifo) -> Option<Self> {
         let Fifo {
             depth,
             count,
@@ -59,9 +54,10 @@ impl Stage {
         if !legal_depth(*depth) || count > depth || oldest >= depth {
             return None;
         }
-        Some(Stage {
+        let held: Vec<Payload> = (0..*count).map(|i| slots[(oldest + i) % depth]).collect();
+        held.iter().all(|p| p.strb <= 15).then_some(Stage {
             depth: *depth,
-            held: (0..*count).map(|i| slots[(oldest + i) % depth]).collect(),
+            held,
         })
     }
 

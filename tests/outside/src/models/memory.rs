@@ -1,7 +1,7 @@
 //! "Memory rules": the verdicts on HWPE-Mem and HWPE-MemDecoupled traces.
 
 use super::{earliest, MAX_CYCLES};
-use crate::answers::{MemAnswer, ALIGN, BROKEN, CLEAN, REFUSED};
+use crate::answers::{MemAnswer, ALIGN, BROKEN, CLEAN, NONE};
 
 /// A memory trace as it is lent.
 #[derive(Clone, PartialEq, Debug)]
@@ -49,6 +49,7 @@ impl Trace {
         let (verdict, rule, cycle) = breach.map_or((CLEAN, 0, 0), |(r, c)| (BROKEN, r, c));
         let counted = breach.map_or(n, |(_, c)| c);
         MemAnswer {
+            refusal: 0,
             verdict,
             rule,
             cycle: cycle as u32,
@@ -60,8 +61,9 @@ impl Trace {
 
 fn refused(number: u8) -> MemAnswer {
     MemAnswer {
-        verdict: REFUSED,
-        rule: number,
+        refusal: number,
+        verdict: NONE,
+        rule: 0,
         cycle: 0,
         handshakes: 0,
         open: false,

@@ -1,10 +1,11 @@
 //! "Stream rules": the verdict on a stream's trace.
 
 use super::{earliest, MAX_CYCLES};
-use crate::answers::{StreamAnswer, BROKEN, CLEAN, REFUSED, SEQ};
+use crate::answers::{StreamAnswer, BROKEN, CLEAN, NONE, SEQ};
 
 fn answer(verdict: u8, rule: u8, cycle: usize, handshakes: usize) -> StreamAnswer {
     StreamAnswer {
+        refusal: 0,
         verdict,
         rule,
         cycle: cycle as u32,
@@ -12,16 +13,23 @@ fn answer(verdict: u8, rule: u8, cycle: usize, handshakes: usize) -> StreamAnswe
     }
 }
 
+fn refused(number: u8) -> StreamAnswer {
+    StreamAnswer {
+        refusal: number,
+        ..answer(NONE, 0, 0, 0)
+    }
+}
+
 pub fn check_stream(control: &[u8], data: &[u32], seq: bool) -> StreamAnswer {
     let n = control.len();
     if n != data.len() {
-        return answer(REFUSED, 1, 0, 0);
+        return refused(1);
     }
     if n > MAX_CYCLES {
-        return answer(REFUSED, 3, 0, 0);
+        return refused(3);
     }
     if control.iter().any(|c| c & 0b1100 != 0) {
-        return answer(REFUSED, 2, 0, 0);
+        return refused(2);
     }
     let valid = |c: usize| control[c] & 1 != 0;
     let ready = |c: usize| control[c] & 2 != 0;

@@ -148,3 +148,39 @@ fn report_on_long_texts() {
         Ok(kind.replace(" short", ""))
     });
 }
+
+/// The longest report has 72 bytes: 4,096 cycles, of which the last breaks rule seq. It fits just that room.
+#[test]
+fn longest_report() {
+    let mut text = String::from("kind=stream\nseq=on\ncycles=4096\n");
+    for counter in (0..4_095).chain([0]) {
+        text.push_str(&format!("c=f3{counter:08x}\n"));
+    }
+    assert_eq!(
+        text.len(),
+        53_280 - 1,
+        "seq=on is a byte shorter than seq=off"
+    );
+    let report = "kind=stream\ncycles=4096\nverdict=broken\nrule=seq\nat=4095\nhandshakes=4095\n";
+    assert_eq!(report.len(), 72);
+    let mut out = [0; 72];
+    let answer = linked::report(text.as_bytes(), &mut out);
+    assert_eq!(
+        answer,
+        Filled {
+            refusal: 0,
+            count: 72
+        }
+    );
+    assert_eq!(out, report.as_bytes());
+    let mut short = [0; 71];
+    let answer = linked::report(text.as_bytes(), &mut short);
+    assert_eq!(
+        answer,
+        Filled {
+            refusal: 7,
+            count: 0
+        }
+    );
+    assert_eq!(short, [0; 71]);
+}

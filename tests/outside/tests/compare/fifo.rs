@@ -24,10 +24,9 @@ pub fn arguments(random: &Random) -> (bool, Payload, bool, bool) {
     )
 }
 
-/// Some steps in a row, from a FIFO of any form on, each given what the one before handed back; `read` gives a FIFO's value.
+/// Some steps in a row, from a FIFO of any form on, each given what the one before handed back.
 pub fn compare(
     random: &Random,
-    read: impl Fn(&Fifo) -> Option<Stage>,
     call: impl Fn(Fifo, bool, Payload, bool, bool) -> Stepped<Fifo>,
 ) -> Compared {
     let mut kept = states::any_fifo(random);
@@ -35,11 +34,14 @@ pub fn compare(
     for _ in 0..1 + random.below(60) {
         let (valid, payload, sink, clear) = arguments(random);
         let stepped = call(kept, valid, payload, sink, clear);
-        let (answer, next) = fifo::step(read(&kept), valid, payload, sink, clear);
+        let (answer, next) = fifo::step(Stage::of(&kept), valid, payload, sink, clear);
         let input = (kept, valid, payload, sink, clear);
         same("shown", &(shown(&stepped), input), &(answer, input))?;
         match next {
-            Some(next) => same("next", &(read(&stepped.next), input), &(Some(next), input))?,
+            Some(next) => {
+                let got = Stage::of(&stepped.next);
+                same("next", &(got, input), &(Some(next), input))?
+            }
             None => same("refused", &stepped.next, &kept)?,
         }
         kept = stepped.next;
@@ -51,31 +53,18 @@ pub fn compare(
 #[test]
 fn fifo_step() {
     agree(60_000, &["0", "2", "6"], |random| {
-        compare(random, Stage::of, linked::fifo_step)
+        compare(random, linked::fifo_step)
     });
 }
 
 #[test]
-fn fifo_step_trusted() {
-    agree(60_000, &["0", "2", "6"], |random| {
-        compare(random, Stage::trusted, linked::fifo_step_trusted)
+fn fifo_is_well() {
+    agree(60_000, &["false", "true"], |random| {
+        let fifo = states::any_fifo(random);
+        let well = Stage::of(&fifo).is_some();
+        same("well", &(linked::fifo_is_well(fifo), fifo), &(well, fifo))?;
+        Ok(well.to_string())
     });
-}
-
-#[test]
-fn fifo_is_well_and_ready() {
-    agree(
-        60_000,
-        &["false false", "false true", "true false", "true true"],
-        |random| {
-            let fifo = states::any_fifo(random);
-            let well = Stage::of(&fifo).is_some();
-            let ready = Stage::trusted(&fifo).is_some_and(|stage| stage.ready());
-            let got = (linked::fifo_is_well(fifo), linked::fifo_is_ready(fifo));
-            same("well, ready", &(got, fifo), &((well, ready), fifo))?;
-            Ok(format!("{well} {ready}"))
-        },
-    );
 }
 
 #[test]

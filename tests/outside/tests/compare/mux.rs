@@ -1,3 +1,4 @@
+use outside::answers::Filled;
 use outside::lent::{room, Lent};
 use outside::random::{agree, same, Compared, Random};
 use outside::{linked, models};
@@ -15,7 +16,7 @@ fn number(random: &Random, cycles: usize) -> usize {
 /// The part's bytes and length. Random bytes tell the traces and the places in them apart.
 pub fn compare(
     random: &Random,
-    call: impl Fn([&[u8]; 2], u8, usize, usize, &mut [u8]) -> usize,
+    call: impl Fn([&[u8]; 2], u8, usize, usize, &mut [u8]) -> Filled,
 ) -> Compared {
     let most = random.pick(&[4, 60, 600]);
     let lengths = [random.below(most), random.below(most)];
@@ -28,26 +29,27 @@ pub fn compare(
         true => number(random, cycles),
         false => number(random, cycles.saturating_sub(first)),
     };
-    let part = models::mux::mux_static(lengths, select, first, count)
-        .map_or(&[][..], |(trace, first, count)| {
-            &before[trace][first..first + count]
-        });
-    let room = room(random, part.len());
+    let room = room(random, count.min(700));
     let mut out = Lent::bytes(random, room);
     let mut want = out.clone();
     let got = call([&traces[0], &traces[1]], select, first, count, out.lend());
-    let fits = part.len().min(room);
-    want.lend()[..fits].copy_from_slice(&part[..fits]);
-    let input = (lengths, select, first, count);
-    same("length", &(got, input), &(part.len(), input))?;
+    let model = match models::mux::mux_static(lengths, select, first, count, room) {
+        Ok((trace, first, count)) => {
+            want.lend()[..count].copy_from_slice(&before[trace][first..first + count]);
+            Filled { refusal: 0, count }
+        }
+        Err(refusal) => Filled { refusal, count: 0 },
+    };
+    let input = (lengths, select, first, count, room);
+    same("answer", &(got, input), &(model, input))?;
     same("part", &(out, input), &(want, input))?;
     same("traces", &traces, &before)?;
-    Ok(if part.is_empty() { "8" } else { "0" }.to_string())
+    Ok(model.refusal.to_string())
 }
 
 #[test]
 fn mux_static() {
-    agree(300_000, &["0", "8"], |random| {
+    agree(300_000, &["0", "7", "8"], |random| {
         compare(random, linked::mux_static)
     });
 }

@@ -1,7 +1,6 @@
 //! The comparisons can fail: each tells a call apart that is wrong in one thing.
 
 use crate::{addressgen, bench_text, chain, fifo, memory, mux, stream, strobes};
-use outside::models::fifo::Stage;
 use outside::random::{differ, Compared, Random};
 use outside::{linked, models, states};
 
@@ -39,7 +38,7 @@ fn one_protocol_for_the_other() {
 #[test]
 fn a_step_that_does_not_clear() {
     differs(|random| {
-        fifo::compare(random, Stage::of, |fifo, valid, payload, sink, _| {
+        fifo::compare(random, |fifo, valid, payload, sink, _| {
             linked::fifo_step(fifo, valid, payload, sink, false)
         })
     });
@@ -55,7 +54,7 @@ fn a_step_that_does_not_clear() {
 #[test]
 fn a_refused_state_altered() {
     differs(|random| {
-        fifo::compare(random, Stage::of, |fifo, valid, payload, sink, clear| {
+        fifo::compare(random, |fifo, valid, payload, sink, clear| {
             let mut stepped = linked::fifo_step(fifo, valid, payload, sink, clear);
             if stepped.refusal != 0 {
                 stepped.next.slots[15].data ^= 1;
@@ -85,6 +84,16 @@ fn the_other_trace_muxed() {
     differs(|random| {
         mux::compare(random, |traces, select, first, count, out| {
             linked::mux_static([traces[1], traces[0]], select, first, count, out)
+        })
+    });
+}
+
+#[test]
+fn a_part_cut_to_its_room() {
+    differs(|random| {
+        mux::compare(random, |traces, select, first, count, out| {
+            let fits = count.min(out.len());
+            linked::mux_static(traces, select, first, fits, out)
         })
     });
 }

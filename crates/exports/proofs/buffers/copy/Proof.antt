@@ -1,23 +1,21 @@
 -- `exports::copy` meets its contract. The loop's invariant: the bytes passed, and behind them what the buffer held. Assumes nothing.
-use Prim.Native.Nat.{_≤_, _-_, min}
+use Prim.Native.Nat.{_≤_, _-_}
 use native.Mathlib.Omega.{arith}
 use mathlib.Core.List.{_++_}
 use mathlib.Core.Path.{_≡_}
 use lib.ListN.{length, take, drop, length-set}
+use lib.Seq.{take-length}
 use borrow.Author.Needs.{needs}
 use Rattle.exports.proofs.Copying.{copies-next}
 use Rattle.exports.proofs.buffers.copy.Statement.{statement}
 use Rattle.exports.proofs.buffers.copy.Tie as tie
 
 abbrev Inv-loop : tie.InvT-loop
-Inv-loop bytes out₀ count i₀ out i =
-    (i ≤ count) × (length out ≡ length out₀) × (out ≡ take i bytes ++ drop i out₀)
+Inv-loop bytes out₀ i₀ out i =
+    (i ≤ length bytes) × (length out ≡ length out₀) × (out ≡ take i bytes ++ drop i out₀)
 
 abbrev μ-loop : tie.MeasureT-loop
-μ-loop bytes out₀ count i₀ out i = count - i
-
-fewer-requires : tie.Need-fewer-requires Inv-loop μ-loop
-fewer-requires c κs = search needs
+μ-loop bytes out₀ i₀ out i = length bytes - i
 
 loop-holds : tie.Need-loop-holds Inv-loop μ-loop
 loop-holds c = search needs
@@ -45,9 +43,9 @@ same-length c = search needs
 returns : tie.Need-returns Inv-loop μ-loop
 returns c =
     let l = c .before .loop in
-    let start = c .before .before .before .before .before .args in
-    let e : l .i ≡ min (length (start .bytes .now)) (length (start .out .now)) = omega arith in
-    rw e at (l .inv .2)
+    let bytes = c .before .before .args .bytes .now in
+    let e : l .i ≡ length bytes = omega arith in
+    rw (take-length bytes) at (rw e at (l .inv .2))
 
 pub copy-spec : {M : Type 1} → statement M
 copy-spec =
@@ -55,7 +53,6 @@ copy-spec =
     (tie.spec
     Inv-loop
     μ-loop
-    fewer-requires
     loop-holds
     shared-slice-read-out
     slice-write-out

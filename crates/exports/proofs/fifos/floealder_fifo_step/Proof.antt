@@ -6,13 +6,13 @@ use Rattle.exports.proofs.fifos.floealder_fifo_step.Tie as tie
 step-requires : tie.Need-step-requires
 step-requires c κs = search needs
 
-fifo-numbers-requires : tie.Need-fifo-numbers-requires
-fifo-numbers-requires c κs = search needs
+refusal-requires : tie.Need-refusal-requires
+refusal-requires c κs = search needs
 
 returns : tie.Need-returns
 returns c =
-    let stepped = c .before .step in
-    record { answer = stepped .result; promised = stepped .ensures; same = c .fifo-numbers .ensures }
+    let stepped = c .before .before .before .step in
+    record { answer = stepped .result; promised = stepped .ensures; same = rw (c .refusal .ensures) }
 
 pub floealder-fifo-step-spec : {M : Type 1} → statement M
-floealder-fifo-step-spec = tie.close (tie.spec step-requires fifo-numbers-requires returns)
+floealder-fifo-step-spec = tie.close (tie.spec step-requires refusal-requires returns)

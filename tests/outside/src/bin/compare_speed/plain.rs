@@ -5,6 +5,7 @@ use outside::models::chain::Offered;
 
 fn answer(verdict: u8, rule: u8, cycle: usize, handshakes: u32) -> StreamAnswer {
     StreamAnswer {
+        refusal: 0,
         verdict,
         rule,
         cycle: cycle as u32,
@@ -12,16 +13,23 @@ fn answer(verdict: u8, rule: u8, cycle: usize, handshakes: u32) -> StreamAnswer 
     }
 }
 
+fn refused(number: u8) -> StreamAnswer {
+    StreamAnswer {
+        refusal: number,
+        ..answer(NONE, 0, 0, 0)
+    }
+}
+
 #[inline(never)]
 pub fn check_stream(control: &[u8], data: &[u32], seq: bool) -> StreamAnswer {
     if control.len() != data.len() {
-        return answer(REFUSED, 1, 0, 0);
+        return refused(1);
     }
     if control.len() > 65_536 {
-        return answer(REFUSED, 3, 0, 0);
+        return refused(3);
     }
     if control.iter().any(|c| c & 0b1100 != 0) {
-        return answer(REFUSED, 2, 0, 0);
+        return refused(2);
     }
     let mut handshakes = 0;
     let mut last: Option<u16> = None;

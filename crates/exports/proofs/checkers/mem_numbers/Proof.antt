@@ -1,7 +1,7 @@
--- `exports::mem_verdict` meets its contract: in each arm the verdict is known, and its rule's or refusal's number with it. Assumes nothing.
+-- `exports::mem_numbers` meets its contract: in each arm the verdict is known, and its rule's or refusal's number with it. Assumes nothing.
 use borrow.Author.Needs.{needs}
-use Rattle.exports.proofs.checkers.mem_verdict.Statement.{statement}
-use Rattle.exports.proofs.checkers.mem_verdict.Tie as tie
+use Rattle.exports.proofs.checkers.mem_numbers.Statement.{statement}
+use Rattle.exports.proofs.checkers.mem_numbers.Tie as tie
 
 enum-told : tie.Need-enum-told
 enum-told c = search needs
@@ -27,8 +27,8 @@ returns-2 c = rw (c .before .before .verdict .given .1, c .mem-rule .ensures)
 returns-3 : tie.Need-returns-3
 returns-3 c = rw (c .before .before .verdict2 .given .1, c .number .ensures)
 
-pub mem-verdict-spec : {M : Type 1} → statement M
-mem-verdict-spec =
+pub mem-numbers-spec : {M : Type 1} → statement M
+mem-numbers-spec =
     tie.close
     (tie.spec
     enum-told
