@@ -5,14 +5,13 @@ use mathlib.Core.Bool.{Bool, true, false}
 use mathlib.Core.List.{List, [], _∷_, map}
 use mathlib.Core.Path.{_≡_, refl}
 use lib.ListN.{length}
-use Rattle.signals.specs.Written.{Written, number, seq, writtenClean, writtenBroken}
-use Rattle.stream_checker.specs.declared.Checked as stream-checker
+use Rattle.signals.specs.Judging.{clean, broken}
+use Rattle.signals.specs.Written.{RuleName, number, seq, Judgement}
+use Rattle.signals.specs.Written as written
 use Rattle.stream_checker.specs.Verdicts.{checkStream}
-use Rattle.stream_checker.specs.Written.{written as streamWritten}
-use Rattle.mem_checker.specs.declared.Checked as mem-checker
 use Rattle.mem_checker.specs.Rules.{Protocol, mem, memDecoupled}
+use Rattle.mem_checker.specs.Verdicts as mem-checker
 use Rattle.mem_checker.specs.Verdicts.{checkMem}
-use Rattle.mem_checker.specs.Written.{written as memWritten}
 use Rattle.addressgen.specs.declared.Settings.{Settings}
 use Rattle.addressgen.specs.Stepping.{start, addresses}
 use Rattle.addressgen.specs.Run.{ranOf}
@@ -24,10 +23,16 @@ pub data Question : Type 0 where
   memory : Protocol → List (ℕ × ℕ) → Question
   generator : Settings → ℕ → Question
 
--- the verdict as document 01 writes it, the handshake count, and whether the trace is open; or the iteration count and the addresses
+-- a verdict with the handshake count, and whether the trace is open; or the iteration count and the addresses
 pub data Answer : Type 0 where
-  judged : Written → (handshakes : ℕ) → (isOpen : Bool) → Answer
+  judged : Judgement → (isOpen : Bool) → Answer
   yielded : (count : ℕ) → List ℕ → Answer
+
+abbrev isClean : (handshakes : ℕ) → (isOpen : Bool) → Answer
+isClean handshakes isOpen = judged (record { verdict = written.judged clean; handshakes = handshakes }) isOpen
+
+abbrev isBroken : RuleName → (cycle handshakes : ℕ) → Answer
+isBroken rule cycle handshakes = judged (record { verdict = written.judged (broken rule cycle); handshakes = handshakes }) false
 
 -- the two columns of a trace
 abbrev firsts : List (ℕ × ℕ) → List ℕ
@@ -36,18 +41,15 @@ firsts cycles = map (λ c. c .0) cycles
 abbrev seconds : List (ℕ × ℕ) → List ℕ
 seconds cycles = map (λ c. c .1) cycles
 
-abbrev streamAnswer : stream-checker.Checked → Answer
-streamAnswer c = judged (streamWritten (c .verdict)) (c .handshakes) false
-
-abbrev memAnswer : mem-checker.Checked → Answer
-memAnswer c = judged (memWritten (c .verdict)) (c .handshakes) (c .«open»)
+abbrev memAnswer : mem-checker.Answer → Answer
+memAnswer a = judged (a .judgement) (a .«open»)
 
 abbrev generatorAnswer : Settings → (count : ℕ) → Answer
 generatorAnswer s count = yielded count (addresses s start count)
 
 -- the definitions' answer; of a memory trace's data and r_data only the lengths count, and the generator's buffer has n words
 abbrev pub answer : Question → Answer
-answer (stream seqOn cycles) = streamAnswer (checkStream (firsts cycles) (seconds cycles) seqOn)
+answer (stream seqOn cycles) = judged (checkStream (firsts cycles) (seconds cycles) seqOn) false
 answer (memory protocol cycles) =
     memAnswer (checkMem protocol (firsts cycles) (seconds cycles) (length cycles) (length cycles))
 answer (generator s n) = generatorAnswer s (ranOf s start n n .count)
@@ -73,22 +75,22 @@ p12Settings = record { base = 8; d0 = 0; d1 = 0; total = 4; s0 = 0xfffffffc; s1 
 abbrev pub examples : List Example
 examples =
     -- P1 empty stream trace: clean, 0
-    stream false [] gives judged writtenClean 0 false
+    stream false [] gives isClean 0 false
     -- P2 the trace of "Bench text": broken, rule 2, at 4, handshakes 1
     ∷ stream false ((0x02, 0x00) ∷ (0xf1, 0x11) ∷ (0xf3, 0x11) ∷ (0xf1, 0x12) ∷ (0xf3, 0x13) ∷ []) gives
-    judged (writtenBroken (number 2) 4) 1 false
+    isBroken (number 2) 4 1
     -- P3 valid 1 ready 0, then valid 0 with other data: rule 4 at 1
-    ∷ stream false ((0xf1, 0x11) ∷ (0xf0, 0x12) ∷ []) gives judged (writtenBroken (number 4) 1) 0 false
+    ∷ stream false ((0xf1, 0x11) ∷ (0xf0, 0x12) ∷ []) gives isBroken (number 4) 1 0
     -- P4 counters 65535 then 0: clean
-    ∷ stream true ((0xf3, 65535) ∷ (0xf3, 0) ∷ []) gives judged writtenClean 2 false
+    ∷ stream true ((0xf3, 65535) ∷ (0xf3, 0) ∷ []) gives isClean 2 false
     -- P5 a counter twice running: seq at the second
-    ∷ stream true ((0xf3, 7) ∷ (0xf3, 7) ∷ []) gives judged (writtenBroken seq 1) 1 false
+    ∷ stream true ((0xf3, 7) ∷ (0xf3, 7) ∷ []) gives isBroken seq 1 1
     -- P6 read handshake, then r_valid 0: rule 2 at 1
-    ∷ memory mem ((0xf7, 0) ∷ (0x00, 0) ∷ []) gives judged (writtenBroken (number 2) 1) 1 false
+    ∷ memory mem ((0xf7, 0) ∷ (0x00, 0) ∷ []) gives isBroken (number 2) 1 1
     -- P7 read handshake alone: clean, open
-    ∷ memory mem ((0xf7, 0) ∷ []) gives judged writtenClean 1 true
+    ∷ memory mem ((0xf7, 0) ∷ []) gives isClean 1 true
     -- P8 decoupled read then write handshake: rule 4 at 1
-    ∷ memory memDecoupled ((0xf7, 0) ∷ (0xf3, 0) ∷ []) gives judged (writtenBroken (number 4) 1) 1 false
+    ∷ memory memDecoupled ((0xf7, 0) ∷ (0xf3, 0) ∷ []) gives isBroken (number 4) 1 1
     -- P9 base 0x1000, d0 3, d1 2, s0 4, s1 0x20, s2 0x100, total 8, mask 3: 1000 1004 1008 1020 1024 1028 1100 1104
     ∷ generator (p9Settings 3) 8 gives
     yielded 8 (0x1000 ∷ 0x1004 ∷ 0x1008 ∷ 0x1020 ∷ 0x1024 ∷ 0x1028 ∷ 0x1100 ∷ 0x1104 ∷ [])
