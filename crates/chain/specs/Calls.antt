@@ -50,7 +50,7 @@ pub data Call : Type 0 where
   step : (valid : Bool) (payload : Payload) (sink clear : Bool) → Call
   run : (controls words sinks outControls outWords : List ℕ) → Call
 
--- the grounds for refusing a step, and a run, of a line that has its form or has not
+-- the grounds for refusing a step, and those for a run, in the order in which they are tried; `form`: the line has its form
 abbrev pub stepGrounds : (form : Bool) → Payload → List (Row ℕ)
 stepGrounds form payload = 6 ⇐ not form ∷ 2 ⇐ not (legalStrb payload) ∷ []
 
