@@ -47,7 +47,11 @@ fn planned(plan: &[u8], index: usize) -> Option<isize> {
         [b'-', digits @ ..] => (-1, digits),
         digits => (1, digits),
     };
-    Some(digits.iter().fold(0, |n, &b| n * 10 + sign * (b - b'0') as isize))
+    Some(
+        digits
+            .iter()
+            .fold(0, |n, &b| n * 10 + sign * (b - b'0') as isize),
+    )
 }
 
 /// The system's own call.
@@ -59,7 +63,14 @@ unsafe fn system(call: isize, fd: c_int, bytes: *const u8, count: usize) -> isiz
 }
 
 /// The call as its plan has it, if it is on the one descriptor.
-unsafe fn called(call: isize, fd: c_int, bytes: *const u8, count: usize, plan: &CStr, calls: &AtomicUsize) -> isize {
+unsafe fn called(
+    call: isize,
+    fd: c_int,
+    bytes: *const u8,
+    count: usize,
+    plan: &CStr,
+    calls: &AtomicUsize,
+) -> isize {
     let name = CStr::from_ptr(program_invocation_short_name).to_bytes();
     let mut most = count;
     let mut answer = 1;
