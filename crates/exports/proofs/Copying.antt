@@ -3,13 +3,13 @@ use Prim.Native.Nat.{ℕ, _+_, _<_}
 use native.Mathlib.Numerals.{add-one}
 use native.Mathlib.Omega.{arith}
 use mathlib.Core.List.{List, _++_}
-use mathlib.Core.Path.{_≡_}
+use mathlib.Core.Path.{_≡_, _∙_}
 use lib.ListN.{length, take, drop, set, getD, length-take}
-use lib.Seq.{take-suc, drop-cons, set-at, append-snoc}
+use lib.Seq.{take-suc}
+use Rattle.signals.proofs.Writing.{writes-one}
 
 pub copies-next :
     (bytes before out : List ℕ) (i : ℕ) → i < length bytes → i < length before → out ≡ take i bytes ++ drop i before →
     set out i (getD bytes i 0) ≡ take (i + 1) bytes ++ drop (i + 1) before
 copies-next bytes before out i inside fits e =
-    let counted : length (take i bytes) ≡ i = simp length-take (omega arith) in
-    rw (e, drop-cons before i 0, set-at (take i bytes) _ _ (getD bytes i 0) i counted, add-one i, take-suc bytes i 0, append-snoc)
+    writes-one (take i bytes) i before out (simp length-take (omega arith)) fits e (getD bytes i 0) ∙ rw (add-one i, take-suc bytes i 0)

@@ -1,14 +1,13 @@
 -- What every checker's answer means: a verdict has one case, which tells the refusal or the finding, and the finding is judged by
 -- `judges`. Assumes nothing.
-use Prim.Native.Nat.{ℕ, _<_}
+use Prim.Native.Nat.{ℕ}
 use mathlib.Core.Bool.{Bool}
 use mathlib.Core.List.{List}
-use mathlib.Core.Logic.{_↔_}
 use mathlib.Core.Option.{Option, none, some}
 use mathlib.Core.Path.{_≡_, refl, ap}
-use Rattle.signals.specs.Tables.{Row, firstOf, NoneIn, FirstIn}
-use Rattle.signals.specs.Judging.{Finding, clean, broken, countBelow, findingBelow, cyclesCounted, FirstBreach}
-use Rattle.signals.specs.Written.{RuleName, Written, judged, refused, Judgement, judgement, unlessRefused, Meaning}
+use Rattle.signals.specs.Tables.{Row, firstOf}
+use Rattle.signals.specs.Judging.{Finding, clean, broken, countBelow, findingBelow, cyclesCounted}
+use Rattle.signals.specs.Written.{RuleName, judged, refused, Judgement, judgement, unlessRefused, Meaning}
 use Rattle.signals.proofs.Bools.{clash}
 use Rattle.signals.proofs.Tables.{first-exactly, none-exactly}
 use Rattle.signals.proofs.Judging.{judges}

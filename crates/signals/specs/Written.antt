@@ -6,7 +6,7 @@ use mathlib.Core.List.{List}
 use mathlib.Core.Logic.{_↔_}
 use mathlib.Core.Option.{Option, none, some}
 use mathlib.Core.Path.{_≡_}
-use Rattle.signals.specs.Tables.{Row, firstOf, NoneIn, FirstIn}
+use Rattle.signals.specs.Tables.{Row, NoneIn, FirstIn}
 use Rattle.signals.specs.Judging.{Finding, clean, broken, countBelow, findingBelow, cyclesCounted, FirstBreach}
 
 -- a rule has a number, or one of two names

@@ -1,5 +1,5 @@
 -- `floealder_mux_static` meets its contract: its two tests are the grounds, and the part that `mux_static` ensures is copied. Assumes nothing.
-use mathlib.Core.Path.{_≡_, ap}
+use mathlib.Core.Path.{ap}
 use borrow.Author.Needs.{needs}
 use Rattle.mux.specs.Mux.{Part}
 use Rattle.exports.proofs.Handing.{room-short, part-refused, part-fits, part-handed}
