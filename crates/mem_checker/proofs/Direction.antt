@@ -8,7 +8,7 @@ use mathlib.Core.Option.{Option, none, some}
 use mathlib.Core.Path.{_≡_, refl, sym, _∙_, ap}
 use Rattle.signals.specs.Memory.{Access, granted}
 use Rattle.signals.proofs.Bools.{either, both, not-both}
-use Rattle.signals.proofs.Judging.{order-of}
+use Rattle.signals.proofs.Judging.{order-of, before-or-last}
 use Rattle.mem_checker.specs.Rules.{firstWen, orWenOf, differs}
 use Rattle.mem_checker.specs.Meaning.{FirstHandshake, Turns, DirectionByIndex}
 
@@ -49,7 +49,7 @@ module _ (trace : ℕ → Access) where
       this t = record { at = c; is-first = record { before = omega arith; shaken = t; earlier = s }; has = refl }
 
       still : granted (trace c) ≡ false → (a : ℕ) → a < suc c → granted (trace a) ≡ false
-      still f a h = ⊎-elim (λ l. s a l) (λ w. ⊎-elim (λ l. absurd (omega arith)) (λ q. rw q f) w) (order-of a c)
+      still f a h = ⊎-elim (λ l. s a l) (λ q. rw q f) (before-or-last a c h)
 
   says : (c : ℕ) → FirstSays c (firstWen trace c)
   says zero = λ a h. absurd (omega arith)

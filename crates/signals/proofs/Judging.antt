@@ -22,6 +22,10 @@ order-of a b =
     (λ e. ⊎-elim (λ f. inr (inl (ltb-true b a f))) (λ f. inr (inr (omega (arith, ltb-false a b e, ltb-false b a f)))) (either (ltb b a)))
     (either (ltb a b))
 
+-- of the cycles 0 to n one is the last
+pub before-or-last : (c n : ℕ) → c < suc n → (c < n) ⊎ (c ≡ n)
+before-or-last c n h = ⊎-elim inl (λ w. inr (⊎-elim (λ l. absurd (omega arith)) (λ q. q) w)) (order-of c n)
+
 module _ {R : Type 0} (rules : ℕ → List (Row R)) where
   -- what a finding over n cycles means
   abbrev Says : ℕ → Finding R → Type 0
@@ -29,10 +33,7 @@ module _ {R : Type 0} (rules : ℕ → List (Row R)) where
   Says n (broken r c) = FirstBreach rules n r c
 
   says-next : (n : ℕ) (finding : Finding R) (breach : Option R) → firstOf (rules n) ≡ breach → Says n finding → Says (suc n) (found finding breach n)
-  says-next n clean none e s = λ c h. ⊎-elim (λ l. s c l) (λ q. rw q (none-keeps (rules n) e)) (last c h)
-    where
-      last : (c : ℕ) → c < suc n → (c < n) ⊎ (c ≡ n)
-      last c h = ⊎-elim inl (λ w. inr (⊎-elim (λ l. absurd (omega arith)) (λ q. q) w)) (order-of c n)
+  says-next n clean none e s = λ c h. ⊎-elim (λ l. s c l) (λ q. rw q (none-keeps (rules n) e)) (before-or-last c n h)
   says-next n clean (some r) e s = record { inside = omega arith; rule = some-first (rules n) r e; earlier = s }
   says-next n (broken r c) breach e s = record { inside = omega (arith, s .inside); rule = s .rule; earlier = s .earlier }
 

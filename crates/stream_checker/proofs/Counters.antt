@@ -10,7 +10,7 @@ use lib.Dec.{eqb}
 use borrow.Author.Tests.{eq-eqb, ne-eqb}
 use Rattle.signals.specs.Stream.{Sample}
 use Rattle.signals.proofs.Bools.{either, both, not-both}
-use Rattle.signals.proofs.Judging.{order-of}
+use Rattle.signals.proofs.Judging.{order-of, before-or-last}
 use Rattle.stream_checker.specs.Rules.{carriesCounter, counter, afterCounter, lastCounter, outOfSeq}
 use Rattle.stream_checker.specs.Meaning.{LastCarrier, LeavesSequence, SeqByIndex}
 
@@ -34,7 +34,7 @@ module _ (trace : ℕ → Sample) where
 
   -- a cycle that carries none leaves what was said
   still : (c : ℕ) (last : Option ℕ) → carriesCounter (trace c) ≡ false → LastSays c last → LastSays (suc c) last
-  still c none f s = λ a h. ⊎-elim (λ l. s a l) (λ w. ⊎-elim (λ l. absurd (omega arith)) (λ q. rw q f) w) (order-of a c)
+  still c none f s = λ a h. ⊎-elim (λ l. s a l) (λ q. rw q f) (before-or-last a c h)
   still c (some n) f s =
       record {
         at = s .at;
@@ -42,7 +42,7 @@ module _ (trace : ℕ → Sample) where
             record {
               before = omega (arith, s .is-last .before);
               carries = s .is-last .carries;
-              later = λ a h g. ⊎-elim (λ l. s .is-last .later a h l) (λ w. ⊎-elim (λ l. absurd (omega arith)) (λ q. rw q f) w) (order-of a c);
+              later = λ a h g. ⊎-elim (λ l. s .is-last .later a h l) (λ q. rw q f) (before-or-last a c g);
             };
         has = s .has;
       }

@@ -2,7 +2,9 @@
 
 use program::{failed, fed, on_file, reported, root, Ended, Folder, BENCH};
 use std::fs;
+use std::os::unix::fs::symlink;
 use std::path::{Path, PathBuf};
+use std::process::Command;
 
 fn refused(rule: u8) -> Ended {
     reported(&format!(
@@ -106,6 +108,17 @@ fn whole_case_in_pieces() {
             "in pieces of {size}"
         );
     }
+}
+
+/// The command is found through a link, from any folder.
+#[test]
+fn through_a_link() {
+    let folder = Folder::new("link");
+    let link = folder.0.join("judge");
+    symlink(root().join("bench"), &link).unwrap();
+    let mut command = Command::new(&link);
+    command.current_dir(&folder.0);
+    assert_eq!(fed(command, BENCH.text, 16), reported(BENCH.report));
 }
 
 /// How many bytes the longest legal text has.
