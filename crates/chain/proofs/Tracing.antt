@@ -3,21 +3,21 @@
 use mathlib.Core.Path.{_≡_, refl, sym, ap, _∙_}
 use mathlib.Core.Bool.{Bool, true, false}
 use mathlib.Core.List.{List, [], _∷_, _++_, map, map-append}
-use Prim.Native.Nat.{ℕ, zero, suc, _+_, _*_, _≤_, _<_}
+use Prim.Native.Nat.{ℕ, zero, suc, _+_, _*_, _%_, _≤_, _<_}
 use native.Mathlib.Omega.{arith}
 use native.Mathlib.Numerals.{add-one}
 use lib.Dec.{eqb}
 use lib.ListN.{length, getD, set, take, drop, length-map}
 use lib.Seq.{take-all, length-take-le}
-use Rattle.signals.specs.Stream.{sample}
+use Rattle.signals.specs.declared.Payload.{Payload}
+use Rattle.signals.specs.Stream.{sample, validBit, strbBits}
 use Rattle.signals.proofs.Writing.{writes-one}
-use Rattle.fifo.specs.Queue.{Queue}
-use Rattle.chain.specs.Cycles.{Cycle, after, afterAll, Outlet, outletIn, outletTrace}
+use Rattle.fifo.specs.Queue.{Queue, isAny, shownAs}
+use Rattle.chain.specs.Cycles.{Cycle, shownIn, after, afterAll, Outlet, outletIn, outletTrace}
 use Rattle.chain.specs.declared.Chain.{Chain}
-use Rattle.chain.specs.declared.Stepped.{Stepped}
 use Rattle.chain.specs.Calls.{well, isWell, queues, bit, recorded, controlByte, dataWord}
 use Rattle.chain.specs.Promises.{value}
-use Rattle.chain.specs.Cycling.{Cycled, Sized, Traced}
+use Rattle.chain.specs.Cycling.{given, Sized, Traced}
 use Rattle.chain.proofs.Used.{well-queues}
 
 pub bit-most : (b : Bool) → bit b ≤ 1
@@ -78,23 +78,25 @@ tracing-start chain cycles oldControls oldWords form = record { at = well-queues
 
 module _ (qs : List Queue) (cs ws ss oldControls oldWords : List ℕ) (chain : Chain) (i : ℕ) (controls words : List ℕ)
     (sized : Sized cs ws ss oldControls oldWords) (w : Tracing qs (recorded cs ws ss) oldControls oldWords chain i controls words) where
-  -- one turn
-  pub tracing-on : (r : Stepped) (byte : ℕ) → i < length cs
-      → Cycled (queues (value chain)) (recordedAs (getD cs i 0) (getD ws i 0) (getD ss i 0)) r
-      → byte ≡ bit (r .valid) + 2 * bit (eqb (getD ss i 0) 1) + 16 * (r .payload .strb)
-      → Tracing qs (recorded cs ws ss) oldControls oldWords (r .next) (i + 1) (set controls i byte) (set words i (r .payload .«data»))
-  tracing-on r byte h c b =
+  -- one turn: a cycle that leaves the chain `next`, its outlet showing `valid` and `payload`
+  pub tracing-on : (next : Chain) (valid : Bool) (payload : Payload) (byte : ℕ) → i < length cs
+      → let this = recordedAs (getD cs i 0) (getD ws i 0) (getD ss i 0) in
+      value next ≡ well (after (queues (value chain)) this)
+      → valid ≡ isAny (shownIn (queues (value chain)) this) → payload ≡ shownAs (shownIn (queues (value chain)) this)
+      → byte ≡ bit valid + 2 * bit (this .sink) + 16 * (payload .strb)
+      → Tracing qs (recorded cs ws ss) oldControls oldWords next (i + 1) (set controls i byte) (set words i (payload .«data»))
+  tracing-on next valid payload byte h leads shows-valid shows-payload b =
       let past = take i (recorded cs ws ss) in
       let this = recordedAs (getD cs i 0) (getD ws i 0) (getD ss i 0) in
       let made : length past ≡ i = length-take-le i (recorded cs ws ss) (omega (arith, recorded-length cs ws ss (sized .sameWords) (sized .sameSinks))) in
       let grown : take (i + 1) (recorded cs ws ss) ≡ past ++ (this ∷ []) = rw (add-one i) (recorded-next i cs ws ss h (sized .sameWords) (sized .sameSinks)) in
       let from : queues (value chain) ≡ afterAll qs past = ap queues (w .at) in
       record {
-        at = rw (grown, after-next qs past this, ← from) (c .next);
+        at = rw (grown, after-next qs past this, ← from) leads;
         writesControls =
-            rw grown (write-next controlByte qs past this i controls oldControls byte made (omega (arith, sized .roomControls)) (w .writesControls) (rw (← from, b, c .valid, c .payload)));
+            rw grown (write-next controlByte qs past this i controls oldControls byte made (omega (arith, sized .roomControls)) (w .writesControls) (rw (← from, b, shows-valid, shows-payload)));
         writesWords =
-            rw grown (write-next dataWord qs past this i words oldWords (r .payload .«data») made (omega (arith, sized .roomWords)) (w .writesWords) (rw (← from, c .payload)));
+            rw grown (write-next dataWord qs past this i words oldWords (payload .«data») made (omega (arith, sized .roomWords)) (w .writesWords) (rw (← from, shows-payload)));
       }
 
   pub tracing-end : i ≡ length cs → Traced qs cs ws ss oldControls oldWords chain controls words
@@ -110,3 +112,42 @@ module _ (qs : List Queue) (cs ws ss oldControls oldWords : List ℕ) (chain : C
         writesControls = w .writesControls ∙ rw (all, made controlByte);
         writesWords = w .writesWords ∙ rw (all, made dataWord);
       }
+
+bit-one : (b : Bool) → eqb (bit b) 1 ≡ b
+bit-one true = refl
+bit-one false = refl
+
+-- a control byte read back, where its reserved bits are 0
+byte-valid : (valid ready : Bool) (strb : ℕ) → validBit (bit valid + 2 * bit ready + 16 * strb) ≡ valid
+byte-valid valid ready strb =
+    let low : (bit valid + 2 * bit ready + 16 * strb) % 2 ≡ bit valid = omega (arith, bit-most valid) in rw low (bit-one valid)
+
+byte-strb : (valid ready : Bool) (strb : ℕ) → strbBits (bit valid + 2 * bit ready + 16 * strb) ≡ strb
+byte-strb valid ready strb = omega (arith, bit-most valid, bit-most ready)
+
+-- what a run over a trace of one cycle leaves and writes is that cycle's
+pub record TracedOne (qs : List Queue) (c : Cycle) (back : Chain) (control word : ℕ) : Type 0 where
+  pub next : value back ≡ well (after qs c)
+  pub valid : validBit control ≡ isAny (shownIn qs c)
+  pub payload : record { «data» = word; strb = strbBits control } ≡ shownAs (shownIn qs c)
+
+pub traced-one : (qs : List Queue) (valid : Bool) (payload : Payload) (sink : Bool) (back : Chain) (exitControls exitWords : List ℕ)
+    → Traced qs ((bit valid + 2 * bit false + 16 * (payload .strb)) ∷ []) (payload .«data» ∷ []) (bit sink ∷ []) (0 ∷ []) (0 ∷ []) back exitControls exitWords
+    → TracedOne qs (given valid payload sink false) back (getD exitControls 0 0) (getD exitWords 0 0)
+traced-one qs valid payload sink back exitControls exitWords t =
+    let this = given valid payload sink false in
+    let one : recordedAs (bit valid + 2 * bit false + 16 * (payload .strb)) (payload .«data») (bit sink) ≡ this =
+    rw (byte-valid valid false (payload .strb), byte-strb valid false (payload .strb), bit-one sink)
+    in
+    let o = outletIn qs this in
+    let control : getD exitControls 0 0 ≡ controlByte o =
+    ap (λ (l : List ℕ). getD l 0 0) (t .writesControls) ∙ ap (λ (c : Cycle). controlByte (outletIn qs c)) one
+    in
+    let word : getD exitWords 0 0 ≡ dataWord o =
+    ap (λ (l : List ℕ). getD l 0 0) (t .writesWords) ∙ ap (λ (c : Cycle). dataWord (outletIn qs c)) one
+    in
+    record {
+      next = t .next ∙ ap (λ (c : Cycle). well (after qs c)) one;
+      valid = rw control (byte-valid (o .sample .valid) sink (o .sample .payload .strb));
+      payload = rw (control, word, byte-strb (o .sample .valid) sink (o .sample .payload .strb));
+    }

@@ -92,73 +92,71 @@ first-ready chain d sink f wide =
     let s = split-start (chain .fifos) (chain .count) (queues (value chain)) (f .row) in
     mouth-ready (chain .fifos) (chain .count) 0 d (queues (value chain)) sink (f .some) (omega (arith, f .most)) (s .from)
 
--- so far in a cycle: what is served is as the rule leaves it, and the rest of the row, fed with `offer`, makes the rule's row and outlet
-pub record Cycling (row : List Queue) (source : List Payload) (sink : Bool) (fs : List Fifo) (n i : ℕ) (offer : List Payload) : Type 0 where
+-- so far in a cycle: what is served is as the rule leaves it, and the rest of the row, fed with what the walk hands on, makes the rule's
+-- row and outlet. The payload handed on is legal, and past the first FIFO it is the one shown
+pub record Cycling (row : List Queue) (source : List Payload) (sink : Bool) (fs : List Fifo) (n i : ℕ) (offers : Bool) (p : Payload) : Type 0 where
   pub served : List Queue
   pub left : List Queue
   pub split : Split fs n i served left
-  pub next : served ++ cycle left offer sink ≡ cycle row source sink
-  pub shows : outlet left offer ≡ outlet row source
+  pub next : served ++ cycle left (when offers (p ∷ [])) sink ≡ cycle row source sink
+  pub shows : outlet left (when offers (p ∷ [])) ≡ outlet row source
+  pub legal : legalStrb p ≡ true
+  pub as-shown : 0 < i → shownAs (when offers (p ∷ [])) ≡ p
 
-pub cycling-start : (fs : List Fifo) (n : ℕ) (row : List Queue) (source : List Payload) (sink : Bool) → lineOf (valuesFrom fs 0 n) ≡ well row
-    → Cycling row source sink fs n 0 source
-cycling-start fs n row source sink e =
-    record { served = []; left = row; split = split-start fs n row e; next = refl; shows = refl }
-
--- what the FIFO at i shows, as the walk hands it on
-abbrev pub handed : Stepped → List Payload
-handed r = when (r .valid) (r .payload ∷ [])
-
-pub any-handed : (r : Stepped) → isAny (handed r) ≡ r .valid
-any-handed r = by-valid (r .valid)
-  where
-    by-valid : (b : Bool) → isAny (when b (r .payload ∷ [])) ≡ b
-    by-valid true = refl
-    by-valid false = refl
-
-pub record Turned (row : List Queue) (source : List Payload) (sink : Bool) (fs : List Fifo) (n i : ℕ) (r : Stepped) : Type 0 where
-  pub cycling : Cycling row source sink (set fs i (r .next)) n (i + 1) (handed r)
-  pub legal : legalStrb (r .payload) ≡ true
-  pub as-shown : shownAs (handed r) ≡ r .payload
+pub cycling-start : (fs : List Fifo) (n : ℕ) (row : List Queue) (sink offers : Bool) (p : Payload) → lineOf (valuesFrom fs 0 n) ≡ well row
+    → legalStrb p ≡ true → Cycling row (when offers (p ∷ [])) sink fs n 0 offers p
+cycling-start fs n row sink offers p e legal =
+    record {
+      served = [];
+      left = row;
+      split = split-start fs n row e;
+      next = refl;
+      shows = refl;
+      legal = legal;
+      as-shown = λ h. absurd (omega (arith, h));
+    }
 
 module _ (row : List Queue) (source : List Payload) (sink : Bool) (fs : List Fifo) (n i : ℕ) (d : Fifo) where
   -- one turn: the FIFO at i steps with `behind`, the ready of what stands behind it
-  pub cycling-on : (offers : Bool) (p : Payload) (behind : Bool) (r : Stepped) → i < n → n ≤ length fs
-      → Cycling row source sink fs n i (when offers (p ∷ [])) → legalStrb p ≡ true
+  pub cycling-on : (offers : Bool) (p : Payload) (behind : Bool) (r : Stepped) → i < n → n ≤ length fs → Cycling row source sink fs n i offers p
       → ((others : List Queue) → valuesFrom fs (i + 1) n ≡ map queue.well others → behind ≡ mouth others sink)
       → fifo.Steps fifo.trusted (getD fs i d) offers p behind false r
-      → Turned row source sink fs n i r
-  cycling-on offers p behind r h k w legal is-behind steps =
+      → Cycling row source sink (set fs i (r .next)) n (i + 1) (r .valid) (r .payload)
+  cycling-on offers p behind r h k w is-behind steps =
       let f = front fs n i d (w .left) h k (w .split .from) in
       let q = f .first in
-      let a = trusted-cycles _ q offers p behind false r (f .has) legal steps refl in
-      let offered : handed r ≡ shown q = rw (a .valid, a .payload) (shown-offered q) in
+      let a = trusted-cycles _ q offers p behind false r (f .has) (w .legal) steps refl in
+      let handed : when (r .valid) (r .payload ∷ []) ≡ shown q = rw (a .valid, a .payload) (shown-offered q) in
       record {
-        cycling =
-            record {
-              served = w .served ++ (next q (when offers (p ∷ [])) behind ∷ []);
-              left = f .others;
-              split = serve fs n i (w .served) (f .others) (r .next) _ (omega arith) (w .split .below) (f .behind) (a .next);
-              next = rw (append-assoc, offered, is-behind (f .others) (f .behind)) (rw (f .stands) at (w .next));
-              shows = rw offered (rw (f .stands) at (w .shows));
-            };
+        served = w .served ++ (next q (when offers (p ∷ [])) behind ∷ []);
+        left = f .others;
+        split = serve fs n i (w .served) (f .others) (r .next) _ (omega arith) (w .split .below) (f .behind) (a .next);
+        next = rw (append-assoc, handed, is-behind (f .others) (f .behind)) (rw (f .stands) at (w .next));
+        shows = rw handed (rw (f .stands) at (w .shows));
         legal = payload-legal _ q offers p behind false r (f .has) steps;
-        as-shown = ap shownAs offered ∙ sym (a .payload);
+        as-shown = λ _. ap shownAs handed ∙ sym (a .payload);
       }
 
--- at the end the served FIFOs are the rule's row, and the last has shown the rule's outlet
-pub record Ended (row : List Queue) (source : List Payload) (sink : Bool) (fs : List Fifo) (n : ℕ) (offer : List Payload) : Type 0 where
+-- at the end the served FIFOs are the rule's row, and what the last one shows is the rule's outlet
+pub record Ended (row : List Queue) (source : List Payload) (sink : Bool) (fs : List Fifo) (n : ℕ) (offers : Bool) (p : Payload) : Type 0 where
   pub next : lineOf (valuesFrom fs 0 n) ≡ well (cycle row source sink)
-  pub shows : offer ≡ outlet row source
+  pub valid : offers ≡ isAny (outlet row source)
+  pub payload : p ≡ shownAs (outlet row source)
 
-pub cycling-end : (row : List Queue) (source : List Payload) (sink : Bool) (fs : List Fifo) (n : ℕ) (offer : List Payload)
-    → Cycling row source sink fs n n offer → Ended row source sink fs n offer
-cycling-end row source sink fs n offer w =
+pub cycling-end : (row : List Queue) (source : List Payload) (sink : Bool) (fs : List Fifo) (n : ℕ) (offers : Bool) (p : Payload) → 0 < n
+    → Cycling row source sink fs n n offers p → Ended row source sink fs n offers p
+cycling-end row source sink fs n offers p some w =
     let none = none-left fs n n (w .left) (omega arith) (w .split .from) in
+    let shows : when offers (p ∷ []) ≡ outlet row source = rw none at (w .shows) in
     record {
       next = split-end fs n (w .served) (w .left) (w .split) ∙ ap well (sym (append-nil (w .served)) ∙ (rw none at (w .next)));
-      shows = rw none at (w .shows);
+      valid = sym (any-when offers) ∙ ap isAny shows;
+      payload = sym (w .as-shown some) ∙ ap shownAs shows;
     }
+  where
+    any-when : (b : Bool) → isAny (when b (p ∷ [])) ≡ b
+    any-when true = refl
+    any-when false = refl
 
 -- so far in a clear
 pub record Clearing (row : List Queue) (fs : List Fifo) (n i : ℕ) : Type 0 where

@@ -1,6 +1,6 @@
 -- What the code's own cycle does to a chain, for the contracts of private functions. No promise of a public call cites this file.
 -- Assumes nothing.
-use mathlib.Core.Bool.{Bool, true}
+use mathlib.Core.Bool.{Bool}
 use mathlib.Core.List.{List, map}
 use mathlib.Core.Option.{none}
 use mathlib.Core.Path.{_≡_}
@@ -8,7 +8,6 @@ use Prim.Native.Nat.{ℕ, _≤_}
 use lib.ListN.{length}
 use Rattle.signals.specs.declared.Payload.{Payload}
 use Rattle.signals.specs.Refusals.{refusalOf}
-use Rattle.signals.specs.Payloads.{legalStrb}
 use Rattle.fifo.specs.Queue.{Queue, isAny, shownAs}
 use Rattle.chain.specs.declared.Chain.{Chain}
 use Rattle.chain.specs.declared.Stepped.{Stepped}
@@ -25,7 +24,6 @@ pub record Cycled (qs : List Queue) (c : Cycle) (r : Stepped) : Type 0 where
   pub ready : r .ready ≡ readyIn qs c
   pub valid : r .valid ≡ isAny (shownIn qs c)
   pub payload : r .payload ≡ shownAs (shownIn qs c)
-  pub legal : legalStrb (r .payload) ≡ true
   pub next : value (r .next) ≡ well (after qs c)
 
 -- lengths of a run that is not refused

@@ -8,45 +8,39 @@ ghost use Rattle.chain.specs.Promises.{value};
 ghost use Rattle.chain.specs.Cycling.{given, Cycled};
 use super::Chain;
 use super::Stepped;
+use super::trace::bit;
+use super::trace::control_byte;
 use signals::Outcome;
 use signals::Payload;
+use signals::stream;
 
 impl Chain {
-    // One cycle with no clear. FIFO i's sink is FIFO i + 1 as it was, since the walk has not come to it yet.
+    // One cycle with no clear: a run over a trace of one.
     fn cycle(self, valid: bool, payload: Payload, sink: bool) -> Stepped
         requires { ⌜ isWell (value self) ≡ true ⌝ }
         requires { ⌜ legalStrb payload ≡ true ⌝ }
         ensures { λ r. ⌜ Cycled (queues (value self)) (given valid payload sink false) r ⌝ }
     {
         self.has_all();
-        let mut chain = self;
-        let last = chain.count - 1;
-        let first = chain.fifos[0];
+        let first = self.fifos[0];
         let ready = first.is_ready();
-        let mut offers = valid;
-        let mut offer = payload;
-        let mut i: usize = 0;
-        while i < last {
-            let f = chain.fifos[i];
-            let behind = chain.fifos[i + 1];
-            let r = f.step_trusted(offers, offer, behind.is_ready(), false);
-            let n = r.next;
-            chain.fifos[i] = n;
-            offers = r.valid;
-            offer = r.payload;
-            i += 1;
-        }
-        let f = chain.fifos[last];
-        let r = f.step_trusted(offers, offer, sink, false);
-        let n = r.next;
-        chain.fifos[last] = n;
-        let shown = r.payload;
+        let control = [control_byte(valid, false, payload.strb); 1];
+        let data = [payload.data; 1];
+        let sinks = [bit(sink); 1];
+        let mut out_control = [0u8; 1];
+        let mut out_data = [0u32; 1];
+        let next = self.traced(&control, &data, &sinks, &mut out_control, &mut out_data);
+        let c = out_control[0];
+        let shown = Payload {
+            data: out_data[0],
+            strb: stream::strb(c),
+        };
         Stepped {
             outcome: Outcome::Accepted,
             ready: ready,
-            valid: r.valid,
+            valid: stream::valid(c),
             payload: shown,
-            next: chain,
+            next: next,
         }
     }
 

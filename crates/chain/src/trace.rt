@@ -32,14 +32,14 @@ fn any_above_one(sinks: &[u8]) -> bool
     false
 }
 
-fn bit(b: bool) -> u8
+pub(crate) fn bit(b: bool) -> u8
     ensures { λ r. ⌜ r ≡ bitOf b ⌝ }
 {
     if b { 1 } else { 0 }
 }
 
 // The control byte that records valid, ready and strb; its reserved bits are 0.
-fn control_byte(valid: bool, ready: bool, strb: u8) -> u8
+pub(crate) fn control_byte(valid: bool, ready: bool, strb: u8) -> u8
     requires { ⌜ strb ≤ maxStrb ⌝ }
     ensures { λ r. ⌜ r ≡ bitOf valid + 2 * bitOf ready + 16 * strb ⌝ }
 {
@@ -78,7 +78,8 @@ impl Chain {
         Outcome::Refused(Refusal::LengthsDiffer)
     }
 
-    // The cycles of a run that is not refused. Each writes what the outlet shows.
+    // The cycles of a run that is not refused. In each the walk goes from the mouth to the outlet: a FIFO is offered what the one
+    // before it showed, and its sink is the one behind it as it was, since the walk has not come to it yet. What the last one shows is written.
     pub(crate) fn traced(
         self,
         control: &[u8],
@@ -91,21 +92,35 @@ impl Chain {
         requires { ⌜ Sized (now control) (now «data») (now sink) (now «out_control») (now «out_data») ⌝ }
         ensures { λ r. ⌜ Traced (queues (value self)) (now (control .entry)) (now («data» .entry)) (now (sink .entry)) (now («out_control» .entry)) (now («out_data» .entry)) r (now («out_control» .exit)) (now («out_data» .exit)) ⌝ }
     {
+        self.has_all();
         let mut chain = self;
+        let last = chain.count - 1;
         let mut i = 0;
         while i < control.len() {
             let c = control[i];
-            let offer = Payload {
+            let ready = sink[i] == 1;
+            let mut offers = stream::valid(c);
+            let mut offer = Payload {
                 data: data[i],
                 strb: stream::strb(c),
             };
-            let ready = sink[i] == 1;
-            let r = chain.advance(stream::valid(c), offer, ready, false);
-            let n = r.next;
-            chain = n;
-            let shown = r.payload;
-            out_control[i] = control_byte(r.valid, ready, shown.strb);
-            out_data[i] = shown.data;
+            let mut j: usize = 0;
+            while j <= last {
+                let f = chain.fifos[j];
+                let mut behind_ready = ready;
+                if j < last {
+                    let behind = chain.fifos[j + 1];
+                    behind_ready = behind.is_ready();
+                }
+                let r = f.step_trusted(offers, offer, behind_ready, false);
+                let n = r.next;
+                chain.fifos[j] = n;
+                offers = r.valid;
+                offer = r.payload;
+                j += 1;
+            }
+            out_control[i] = control_byte(offers, ready, offer.strb);
+            out_data[i] = offer.data;
             i += 1;
         }
         chain

@@ -74,7 +74,6 @@ returns c valid payload sink =
       ready = refl;
       valid = refl;
       payload = refl;
-      legal = refl;
       next = row-value _ _ (rw same (f .some)) (rw same (f .most)) (rw same e);
     }
 

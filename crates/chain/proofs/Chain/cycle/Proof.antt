@@ -1,176 +1,123 @@
--- `Chain::cycle` meets its contract. The invariant: the FIFOs before `i` are as the rule leaves them, and the rest of the row,
--- fed with what the walk hands on, makes the rule's row and outlet (`Cycling`). Assumes nothing.
-use mathlib.Core.Path.{_≡_, refl, sym, ap, _∙_}
-use mathlib.Core.Bool.{true}
-use mathlib.Core.List.{[], _∷_}
-use Prim.Native.Nat.{_+_, _-_, _≤_, _<_}
-use native.Mathlib.Omega.{arith}
-use borrow.Author.Needs.{needs}
-use lib.ListN.{length, length-set}
-use Rattle.signals.specs.Payloads.{legalStrb}
-use Rattle.fifo.specs.Queue.{when, isAny, shownAs}
-use Rattle.chain.specs.Calls.{queues, maxFifos}
+-- `Chain::cycle` meets its contract: a run over a trace of one cycle makes that cycle (`traced-one`), and the chain's ready is its first
+-- FIFO's. Assumes nothing.
+use mathlib.Core.Path.{_≡_, refl, _∙_}
+use mathlib.Core.Bool.{false}
+use Prim.Native.Nat.{_+_, _*_}
+use lib.ListN.{getD}
+use Rattle.chain.specs.Cycles.{readyIn}
+use Rattle.chain.specs.Calls.{queues, bit}
 use Rattle.chain.specs.Promises.{value}
-use Rattle.chain.proofs.Used.{formed, row-value}
-use Rattle.chain.proofs.Walk.{Cycling, cycling-start, cycling-on, cycling-end, mouth-ready, mouth-sink, first-ready, any-handed}
+use Rattle.chain.specs.Cycling.{given}
+use Rattle.chain.proofs.Used.{formed}
+use Rattle.chain.proofs.Walk.{first-ready}
+use Rattle.chain.proofs.Tracing.{TracedOne, traced-one}
+use borrow.Author.Needs.{needs}
 use Rattle.chain.proofs.Chain.cycle.Statement.{statement}
 use Rattle.chain.proofs.Chain.cycle.Tie as tie
 
-abbrev Inv-loop : tie.InvT-loop
-Inv-loop valid sink chain₀ last ready offers₀ offer₀ i₀ chain offers offer i =
-    Cycling (queues (value chain₀)) (when offers₀ (offer₀ ∷ [])) sink (chain .fifos) (chain₀ .count) i (when offers (offer ∷ []))
-    × ((legalStrb offer ≡ true)
-    × ((chain .count ≡ chain₀ .count) × ((length (chain .fifos) ≡ maxFifos) × ((i ≤ last) × ((last + 1 ≡ chain₀ .count) × (last < maxFifos))))))
-
-abbrev μ-loop : tie.MeasureT-loop
-μ-loop valid sink chain₀ last ready offers₀ offer₀ i₀ chain offers offer i = last - i
-
-has-all-requires : tie.Need-has-all-requires Inv-loop μ-loop
+has-all-requires : tie.Need-has-all-requires
 has-all-requires c κs = search needs
 
-sub-last : tie.Need-sub-last Inv-loop μ-loop
-sub-last c = formed _ (c .before .pre .0) .some
-
-element-copy-out-first : tie.Need-element-copy-out-first Inv-loop μ-loop
+element-copy-out-first : tie.Need-element-copy-out-first
 element-copy-out-first c = search needs
 
-is-ready-requires : tie.Need-is-ready-requires Inv-loop μ-loop
+is-ready-requires : tie.Need-is-ready-requires
 is-ready-requires c κs = search needs
 
-loop-holds : tie.Need-loop-holds Inv-loop μ-loop
-loop-holds c =
+control-byte-requires : tie.Need-control-byte-requires
+control-byte-requires c κs = search needs
+
+bit-requires : tie.Need-bit-requires
+bit-requires c κs = search needs
+
+slice-aggregate-traced : tie.Need-slice-aggregate-traced
+slice-aggregate-traced c = search needs
+
+slice-aggregate-traced-2 : tie.Need-slice-aggregate-traced-2
+slice-aggregate-traced-2 c = search needs
+
+slice-aggregate-traced-3 : tie.Need-slice-aggregate-traced-3
+slice-aggregate-traced-3 c = search needs
+
+slice-aggregate-traced-4 : tie.Need-slice-aggregate-traced-4
+slice-aggregate-traced-4 c = search needs
+
+slice-aggregate-traced-5 : tie.Need-slice-aggregate-traced-5
+slice-aggregate-traced-5 c = search needs
+
+traced-requires : tie.Need-traced-requires
+traced-requires c κs = search needs
+
+array-read-c : tie.Need-array-read-c
+array-read-c c = search needs
+
+array-read-t36 : tie.Need-array-read-t36
+array-read-t36 c = search needs
+
+strb-requires : tie.Need-strb-requires
+strb-requires c κs = search needs
+
+valid-requires : tie.Need-valid-requires
+valid-requires c κs = search needs
+
+-- ready at the mouth
+ready : (c : tie.After-is-ready) →
+    let a = c .before .before .before .args in
+    c .is-ready .result ≡ readyIn (queues (value (a .t1))) (given (a .valid) (a .payload) (a .sink) false)
+ready c =
     let start = c .before .before .before in
-    let chain = start .args .self in
-    let f = formed chain (start .pre .0) in (
-      cycling-start (chain .fifos) (chain .count) _ _ (start .args .sink) (f .row),
-      (start .pre .1, (refl, (c .before .before .has-all .ensures, (omega arith, (omega (arith, f .some), omega (arith, f .some, f .most)))))),
-    )
+    c .is-ready .ensures ∙ first-ready (start .args .t1) _ (start .args .sink) (formed (start .args .t1) (start .pre .0)) (c .before .before .has-all .ensures)
 
-mul-f : tie.Need-mul-f Inv-loop μ-loop
-mul-f c = search needs
+-- the offer's control byte and the sink's entry
+offer-byte : (c : tie.After-control-byte) →
+    let a = c .before .before .before .before .args in
+    c .control-byte .result ≡ bit (a .valid) + 2 * bit false + 16 * (a .payload .strb)
+offer-byte c = c .control-byte .ensures
 
-element-copy-out-f : tie.Need-element-copy-out-f Inv-loop μ-loop
-element-copy-out-f c = search needs
+sink-entry : (c : tie.After-bit) → c .bit .result ≡ bit (c .before .before .before .before .before .args .sink)
+sink-entry c = c .bit .ensures
 
-add-behind : tie.Need-add-behind Inv-loop μ-loop
-add-behind c = search needs
+-- the one cycle
+one : (c : tie.After-traced) →
+    let a = c .before .before .before .before .before .before .before .before .before .before .before .args in
+    let run = c .traced in
+    TracedOne (queues (value (a .t1))) (given (a .valid) (a .payload) (a .sink) false) (run .result)
+    (getD (run .last .1 .1 .1 .1 .0) 0 0)
+    (getD (run .last .1 .1 .1 .1 .1 .0) 0 0)
+one c =
+    let bits = c .before .before .before .before .before .before in
+    let a = bits .before .before .before .before .before .args in
+    traced-one _ (a .valid) (a .payload) (a .sink) (c .traced .result) _ _ (rw (offer-byte (bits .before), sink-entry bits) at (c .traced .ensures))
 
-mul-behind : tie.Need-mul-behind Inv-loop μ-loop
-mul-behind c = search needs
-
-element-copy-out-behind : tie.Need-element-copy-out-behind Inv-loop μ-loop
-element-copy-out-behind c = search needs
-
-is-ready-requires-2 : tie.Need-is-ready-requires-2 Inv-loop μ-loop
-is-ready-requires-2 c κs = search needs
-
-step-trusted-requires : tie.Need-step-trusted-requires Inv-loop μ-loop
-step-trusted-requires c κs = search needs
-
-mul-n : tie.Need-mul-n Inv-loop μ-loop
-mul-n c = search needs
-
-element-set-from-n : tie.Need-element-set-from-n Inv-loop μ-loop
-element-set-from-n c = search needs
-
-add-i : tie.Need-add-i Inv-loop μ-loop
-add-i c = search needs
-
-loop-less : tie.Need-loop-less Inv-loop μ-loop
-loop-less c = search needs
-
-loop-again : tie.Need-loop-again Inv-loop μ-loop
-loop-again c =
-    let stepped = c .before .before in
-    let l = stepped .before .before .before .before .before .loop in
-    let a = stepped .before .before .before .before .before .before .before .before .before .args in
-    let fs = l .chain .fifos in
-    let n = a .self .count in
-    let r = stepped .step-trusted in
-    let k = stepped .before .is-ready2 in
-    let wide = l .inv .1 .1 .1 .0 in
-    let last = l .inv .1 .1 .1 .1 .1 in
-    let inside : l .i + 1 < n = omega (arith, stepped .before .before .before .before .loop-test .taken, last .0) in
-    let fits : n ≤ length fs = omega (arith, wide, last .0, last .1) in
-    let t =
-    cycling-on _ _ (a .sink) fs n (l .i) _ (l .offers) (l .offer) (k .result) (r .result) (omega arith) fits (l .inv .0) (l .inv .1 .0)
-    (λ others behind. k .ensures ∙ mouth-ready fs n (l .i + 1) _ others (a .sink) inside fits behind)
-    (r .ensures)
-    in
-    (t .cycling, (t .legal, (l .inv .1 .1 .0, (length-set fs (l .i) (r .result .next) ∙ wide, (omega (arith, inside, last .0), last)))))
-
-mul-f-2 : tie.Need-mul-f-2 Inv-loop μ-loop
-mul-f-2 c = search needs
-
-element-copy-out-f-2 : tie.Need-element-copy-out-f-2 Inv-loop μ-loop
-element-copy-out-f-2 c = search needs
-
-step-trusted-requires-2 : tie.Need-step-trusted-requires-2 Inv-loop μ-loop
-step-trusted-requires-2 c κs = search needs
-
-mul-n-2 : tie.Need-mul-n-2 Inv-loop μ-loop
-mul-n-2 c = search needs
-
-element-set-from-n-2 : tie.Need-element-set-from-n-2 Inv-loop μ-loop
-element-set-from-n-2 c = search needs
-
-returns : tie.Need-returns Inv-loop μ-loop
+returns : tie.Need-returns
 returns c =
-    let l = c .before .before .before .before .before .loop in
-    let start = c .before .before .before .before .before .before .before .before .before in
-    let a = start .args in
-    let f = formed (a .self) (start .pre .0) in
-    let fs = l .chain .fifos in
-    let n = a .self .count in
-    let r = c .before .before .step-trusted2 in
-    let wide = l .inv .1 .1 .1 .0 in
-    let at : l .i ≡ n - 1 = omega (arith, c .before .before .before .before .loop-test .left, l .inv .1 .1 .1 .1 .0) in
-    let end : n - 1 + 1 ≡ n = omega (arith, f .some) in
-    let fits : n ≤ length fs = omega (arith, wide, f .most) in
-    let t =
-    cycling-on _ _ (a .sink) fs n (n - 1) _ (l .offers) (l .offer) (a .sink) (r .result) (omega arith) fits (rw at at (l .inv .0)) (l .inv .1 .0)
-    (λ others behind. mouth-sink fs n (n - 1 + 1) others (a .sink) (omega arith) behind)
-    (r .ensures)
-    in
-    let e = cycling-end _ _ (a .sink) _ n _ (rw end at (t .cycling)) in
-    let same = l .inv .1 .1 .0 in
+    let run = c .before .before .before .before in
+    let t = one run in
     record {
       refusal = refl;
-      ready =
-          c .before .before .before .before .before .before .is-ready .ensures
-          ∙ first-ready (a .self) _ (a .sink) f (c .before .before .before .before .before .before .before .before .has-all .ensures);
-      valid = sym (any-handed (r .result)) ∙ ap isAny (e .shows);
-      payload = sym (t .as-shown) ∙ ap shownAs (e .shows);
-      legal = t .legal;
-      next = row-value _ _ (rw same (f .some)) (rw same (f .most)) (rw same (e .next));
+      ready = ready (run .before .before .before .before .before .before .before .before);
+      valid = c .valid .ensures ∙ t .valid;
+      payload = rw (c .before .strb .ensures) (t .payload);
+      next = t .next;
     }
 
 pub cycle-spec : {M : Type 1} → statement M
 cycle-spec =
     tie.close
     (tie.spec
-    Inv-loop
-    μ-loop
     has-all-requires
-    sub-last
     element-copy-out-first
     is-ready-requires
-    loop-holds
-    mul-f
-    element-copy-out-f
-    add-behind
-    mul-behind
-    element-copy-out-behind
-    is-ready-requires-2
-    step-trusted-requires
-    mul-n
-    element-set-from-n
-    add-i
-    loop-less
-    loop-again
-    mul-f-2
-    element-copy-out-f-2
-    step-trusted-requires-2
-    mul-n-2
-    element-set-from-n-2
+    control-byte-requires
+    bit-requires
+    slice-aggregate-traced
+    slice-aggregate-traced-2
+    slice-aggregate-traced-3
+    slice-aggregate-traced-4
+    slice-aggregate-traced-5
+    traced-requires
+    array-read-c
+    array-read-t36
+    strb-requires
+    valid-requires
     returns)
