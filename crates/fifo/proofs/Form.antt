@@ -1,18 +1,19 @@
 -- A FIFO's numbers in range, as facts (`Form`) and as the test, and how emptying, popping and pushing keep them.
--- Each of the three is said of the FIFO that the code builds, and gives the queue that it stands for. Assumes nothing.
+-- Each of the three is said of the FIFO with the numbers and slots of the code, and gives the queue that it stands for. Assumes nothing.
 use Prim.Native.Nat.{ℕ, zero, suc, _+_, _-_, _≤_, _<_}
 use native.Mathlib.Numerals.{add-one}
 use native.Mathlib.Omega.{arith}
 use mathlib.Core.Bool.{Bool, true, false, cond, _&&_, false≢true}
-use mathlib.Core.List.{List, [], _∷_, _++_}
+use mathlib.Core.List.{List, [], _∷_, _++_, append-nil}
 use mathlib.Core.Path.{_≡_, refl, sym, ap, _∙_}
 use borrow.Author.Tests.{lt-ltb, le-leb, leb-true, ltb-true}
 use lib.Dec.{ltb}
-use lib.ListN.{length, set}
+use lib.ListN.{length, getD, set}
 use Rattle.signals.specs.declared.Payload.{Payload}
+use Rattle.signals.specs.Payloads.{zeros}
 use Rattle.signals.proofs.Bools.{both, clash}
 use Rattle.fifo.specs.declared.Fifo.{Fifo}
-use Rattle.fifo.specs.Queue.{Queue, ill, well, readyOf, capacity, maxDepth, legalDepth, empty, ready, rest, isAny, oldest, shown, when, next}
+use Rattle.fifo.specs.Queue.{Queue, ill, well, readyOf, capacity, maxDepth, legalDepth, empty, ready, rest, isAny, oldest, shown, shownAs, when, next}
 use Rattle.fifo.specs.Ring.{ring, wrapped, queueOf, inRange, trusted}
 use Rattle.fifo.proofs.Depths.{depth-most, capacity-most}
 use Rattle.fifo.proofs.Slots.{wrapped-below, ring-length, ring-oldest, store-joins-end}
@@ -37,13 +38,13 @@ pub count-within : (f : Fifo) → inRange f ≡ true → f .count ≤ maxDepth
 count-within f e =
     let form = form-of f e in omega (arith, form .count, capacity-most (queueOf f), depth-most (f .depth) (form .depth))
 
--- the slot past the end is within the slots
-pub end-within : (f : Fifo) → inRange f ≡ true → wrapped (f .depth) (f .oldest + f .count) < maxDepth
-end-within f e =
+-- a place up to the end has its slot within the slots
+pub place-within : (f : Fifo) (place : ℕ) → inRange f ≡ true → place ≤ f .oldest + f .count → wrapped (f .depth) place < maxDepth
+place-within f place e most =
     let form = form-of f e in
     omega (
       arith,
-      wrapped-below (f .depth) (f .oldest + f .count) (omega (arith, form .oldest, form .count, capacity-most (queueOf f))),
+      wrapped-below (f .depth) place (omega (arith, form .oldest, form .count, capacity-most (queueOf f))),
       depth-most (f .depth) (form .depth),
     )
 
@@ -78,6 +79,14 @@ shows-count f = by-count (f .count)
     by-count zero = refl
     by-count (suc n) = sym (lt-ltb 0 (suc n) (omega arith))
 
+-- the payload shown is the one at the position of the oldest, where something is held, and else zeros
+pub shows-oldest : (f : Fifo) → 0 < f .count → shownAs (shown (queueOf f)) ≡ getD (f .slots) (f .oldest) zeros
+shows-oldest f some = rw (ring-oldest (f .slots) (f .depth) (f .oldest) (f .count) some)
+
+pub shows-zeros : (f : Fifo) → f .count ≤ 0 → shownAs (shown (queueOf f)) ≡ zeros
+unfolding ring
+shows-zeros f none = let nothing : f .count ≡ 0 = omega arith in rw nothing
+
 pub ready-trusted : (f : Fifo) → readyOf (trusted f) ≡ (inRange f && ready (queueOf f))
 unfolding trusted
 ready-trusted f = by-test (inRange f) (queueOf f)
@@ -87,7 +96,7 @@ ready-trusted f = by-test (inRange f) (queueOf f)
     by-test false q = refl
 
 -- a FIFO that stands for a queue by its numbers has them in range, and the queue is the one in its slots
-pub trusted-well : (f : Fifo) (q : Queue) → trusted f ≡ well q → (inRange f ≡ true) × (queueOf f ≡ q)
+trusted-well : (f : Fifo) (q : Queue) → trusted f ≡ well q → (inRange f ≡ true) × (queueOf f ≡ q)
 unfolding trusted
 trusted-well f q e = by-test (inRange f) (queueOf f) e
   where
@@ -138,7 +147,7 @@ abbrev pub afterPush : Fifo → Payload → Fifo
 afterPush f p =
     record { depth = f .depth; count = f .count + 1; oldest = f .oldest; slots = set (f .slots) (wrapped (f .depth) (f .oldest + f .count)) p }
 
-pub push-joins-end : (f : Fifo) (p : Payload) → inRange f ≡ true → length (f .slots) ≡ maxDepth → ready (queueOf f) ≡ true
+push-joins-end : (f : Fifo) (p : Payload) → inRange f ≡ true → length (f .slots) ≡ maxDepth → ready (queueOf f) ≡ true
     → trusted (afterPush f p) ≡ well (record { depth = f .depth; held = queueOf f .held ++ (p ∷ []) })
 push-joins-end f p e wide room =
     let form = form-of f e in
@@ -154,8 +163,12 @@ abbrev pub popQueue : Queue → Bool → Queue
 popQueue q sink = record { depth = q .depth; held = cond sink (rest (q .held)) (q .held) }
 
 module _ (f popped : Fifo) (sink : Bool) (pops : trusted popped ≡ well (popQueue (queueOf f) sink)) where
+  -- the numbers stay in range
+  pub pop-in-range : inRange popped ≡ true
+  pop-in-range = trusted-well popped (popQueue (queueOf f) sink) pops .0
+
   -- what had room has room
-  pub pop-keeps-room : ready (queueOf f) ≡ true → ready (queueOf popped) ≡ true
+  pop-keeps-room : ready (queueOf f) ≡ true → ready (queueOf popped) ≡ true
   pop-keeps-room room = ap ready (trusted-well popped (popQueue (queueOf f) sink) pops .1) ∙ by-sink (queueOf f) sink room
     where
       rest-length : (ps : List Payload) → length (rest ps) ≤ length ps
@@ -167,18 +180,25 @@ module _ (f popped : Fifo) (sink : Bool) (pops : trusted popped ≡ well (popQue
           lt-ltb (length (rest (q .held))) (capacity q) (omega (arith, rest-length (q .held), ltb-true (length (q .held)) (capacity q) r))
       by-sink q false r = r
 
-  -- a push then, of what is offered while there was room, gives the cycle's queue
-  pub push-makes-next : (pushed : Fifo) (offer joins : Bool) (p : Payload) → joins ≡ (offer && ready (queueOf f))
-      → trusted pushed ≡ well (record { depth = popped .depth; held = queueOf popped .held ++ when joins (p ∷ []) })
-      → trusted pushed ≡ well (next (queueOf f) (when offer (p ∷ [])) sink)
-  push-makes-next pushed offer joins p e pushes =
-      pushes
-      ∙ ap (λ (q : Queue). well (record { depth = q .depth; held = q .held ++ when joins (p ∷ []) })) (trusted-well popped (popQueue (queueOf f) sink) pops .1)
-      ∙ ap (λ (l : List Payload). well (record { depth = f .depth; held = popQueue (queueOf f) sink .held ++ l }))
-      (ap (λ (b : Bool). when b (p ∷ [])) e ∙ by-tests offer (ready (queueOf f)))
-    where
-      by-tests : (a b : Bool) → when (a && b) (p ∷ []) ≡ when b (when a (p ∷ []))
-      by-tests true true = refl
-      by-tests true false = refl
-      by-tests false true = refl
-      by-tests false false = refl
+  -- what is offered while there was room, joined to what the pop left, makes the cycle's queue
+  module _ (offer : Bool) (p : Payload) where
+    offered-joins : well (record { depth = popped .depth; held = queueOf popped .held ++ when (offer && ready (queueOf f)) (p ∷ []) })
+        ≡ well (next (queueOf f) (when offer (p ∷ [])) sink)
+    offered-joins =
+        ap (λ (q : Queue). well (record { depth = q .depth; held = q .held ++ when (offer && ready (queueOf f)) (p ∷ []) }))
+        (trusted-well popped (popQueue (queueOf f) sink) pops .1)
+        ∙ ap (λ (l : List Payload). well (record { depth = f .depth; held = popQueue (queueOf f) sink .held ++ l })) (by-tests offer (ready (queueOf f)))
+      where
+        by-tests : (a b : Bool) → when (a && b) (p ∷ []) ≡ when b (when a (p ∷ []))
+        by-tests true true = refl
+        by-tests true false = refl
+        by-tests false true = refl
+        by-tests false false = refl
+
+    pub push-makes-next : length (popped .slots) ≡ maxDepth → (offer && ready (queueOf f)) ≡ true
+        → trusted (afterPush popped p) ≡ well (next (queueOf f) (when offer (p ∷ [])) sink)
+    push-makes-next wide joins =
+        push-joins-end popped p pop-in-range wide (pop-keeps-room (both offer (ready (queueOf f)) joins .1)) ∙ rw joins at offered-joins
+
+    pub no-push : (offer && ready (queueOf f)) ≡ false → trusted popped ≡ well (next (queueOf f) (when offer (p ∷ [])) sink)
+    no-push none = trusted-in popped pop-in-range ∙ rw (none, append-nil) at offered-joins

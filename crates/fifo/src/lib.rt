@@ -11,7 +11,9 @@ ghost use Rattle.signals.specs.Payloads.{zeros};
 ghost use Rattle.fifo.specs.Queue.{isWell, readyOf, when, cleared, cycled};
 ghost use Rattle.fifo.specs.Ring.{value, trusted, queueOf, inRange};
 ghost use Rattle.fifo.specs.Promises.{Made, Steps, answered};
+use ring::all_sixteen;
 use ring::is_legal_depth;
+use ring::wrap;
 use signals::MAX_STRB;
 use signals::Outcome;
 use signals::Payload;
@@ -102,7 +104,7 @@ impl Fifo {
         self.silent(Outcome::Refused(Refusal::BadState))
     }
 
-    // One cycle, nothing being refused.
+    // One cycle, nothing being refused. The slots are copied out once and back once.
     fn cycle(self, valid: bool, payload: Payload, sink: bool, clear: bool) -> Stepped
         requires { ⌜ inRange self ≡ true ⌝ }
         ensures { λ r. ⌜ answered trusted r ≡ cond clear (cleared (queueOf self)) (cycled (queueOf self) (when valid (payload ∷ [])) sink) ⌝ }
@@ -110,16 +112,34 @@ impl Fifo {
         if clear {
             return self.emptied().silent(Outcome::Accepted);
         }
-        let shown = self.shown();
-        let popped = self.popped(sink);
+        let count = self.count;
+        let oldest = self.oldest;
         let ready = self.has_room();
-        let next = popped.pushed(valid & ready, payload);
+        let mut slots = self.slots;
+        all_sixteen(slots);
+        let mut shown = Payload { data: 0, strb: 0 };
+        if 0 < count {
+            shown = slots[oldest];
+        }
+        let left = self.popped(sink);
+        let first = left.oldest;
+        let mut held = left.count;
+        if valid & ready {
+            let end = wrap(self.depth, first + held);
+            slots[end] = payload;
+            held += 1;
+        }
         Stepped {
             outcome: Outcome::Accepted,
             ready: ready,
-            valid: 0 < self.count,
+            valid: 0 < count,
             payload: shown,
-            next: next,
+            next: Fifo {
+                depth: self.depth,
+                count: held,
+                oldest: first,
+                slots: slots,
+            },
         }
     }
 

@@ -1,32 +1,34 @@
-// The ring of a FIFO: its form, what it holds, and how a payload joins at the end and the oldest leaves.
+// The ring of a FIFO: its form, where its payloads lie, and how the oldest leaves.
 //
 // A place in the ring is found by a comparison, and no held payload is moved.
 ghost use mathlib.Core.Path.{_≡_};
 ghost use mathlib.Core.Bool.{true, false, cond};
-ghost use mathlib.Core.List.{[], _∷_, _++_};
-ghost use Prim.Native.Nat.{_<_};
-ghost use lib.ListN.{length, set};
-ghost use Rattle.fifo.specs.Queue.{maxDepth, capacity, legalDepth, legalStrbs, well, empty, emptied, ready, rest, shown, shownAs, when};
+ghost use lib.ListN.{length};
+ghost use Rattle.fifo.specs.Queue.{maxDepth, capacity, legalDepth, legalStrbs, well, empty, emptied, ready, rest};
 ghost use Rattle.fifo.specs.Ring.{wrapped, trusted, queueOf, inRange};
 use super::Fifo;
 use super::MAX_DEPTH;
 use signals::MAX_STRB;
 use signals::Payload;
 
+// Where the payloads lie: `count` of them, in the slots from `oldest` on.
+pub(crate) struct Span {
+    pub oldest: usize,
+    pub count: usize,
+}
+
 // The slot at a place that has passed the end of the ring at most once.
-fn wrap(depth: usize, place: usize) -> usize
+pub(crate) fn wrap(depth: usize, place: usize) -> usize
     ensures { λ r. ⌜ r ≡ wrapped depth place ⌝ }
 {
     if place < depth { place } else { place - depth }
 }
 
-// The slots with one of them written.
-fn stored(mut slots: [Payload; MAX_DEPTH], at: usize, payload: Payload) -> [Payload; MAX_DEPTH]
-    requires { ⌜ at < maxDepth ⌝ }
-    ensures { λ r. ⌜ length slots ≡ maxDepth ⌝ ∗ ⌜ r ≡ set slots at payload ⌝ }
+// Says that an array of sixteen has sixteen elements, which is not known of one that is a field.
+pub(crate) fn all_sixteen(slots: [Payload; MAX_DEPTH]) -> bool
+    ensures { λ r. ⌜ length slots ≡ maxDepth ⌝ }
 {
-    slots[at] = payload;
-    slots
+    true
 }
 
 // Even, 2 to 16.
@@ -89,19 +91,6 @@ impl Fifo {
         self.count < self.capacity()
     }
 
-    // The oldest payload, or zeros.
-    pub(crate) fn shown(self) -> Payload
-        requires { ⌜ inRange self ≡ true ⌝ }
-        ensures { λ r. ⌜ r ≡ shownAs (shown (queueOf self)) ⌝ }
-    {
-        let count = self.count;
-        if count < 1 {
-            return Payload { data: 0, strb: 0 };
-        }
-        let at = self.oldest;
-        self.slots[at]
-    }
-
     pub(crate) fn emptied(mut self) -> Fifo
         requires { ⌜ inRange self ≡ true ⌝ }
         ensures { λ r. ⌜ trusted r ≡ well (emptied (queueOf self)) ⌝ }
@@ -110,33 +99,22 @@ impl Fifo {
         self
     }
 
-    // The oldest leaves when the sink is ready.
-    pub(crate) fn popped(mut self, sink: bool) -> Fifo
+    // Where the payloads lie after the oldest has left, which it does when the sink is ready.
+    pub(crate) fn popped(self, sink: bool) -> Span
         requires { ⌜ inRange self ≡ true ⌝ }
-        ensures { λ r. ⌜ trusted r ≡ well (record { depth = self .depth; held = cond sink (rest (queueOf self .held)) (queueOf self .held) }) ⌝ }
+        ensures { λ r. ⌜ trusted (record { depth = self .depth; count = r .count; oldest = r .oldest; slots = self .slots }) ≡ well (record { depth = self .depth; held = cond sink (rest (queueOf self .held)) (queueOf self .held) }) ⌝ }
     {
         if sink & (0 < self.count) {
-            self.oldest = wrap(self.depth, self.oldest + 1);
-            self.count = self.count - 1;
-            return self;
+            let oldest = wrap(self.depth, self.oldest + 1);
+            let count = self.count - 1;
+            return Span {
+                oldest: oldest,
+                count: count,
+            };
         }
-        self
-    }
-
-    // A payload joins at the end, if it is to.
-    pub(crate) fn pushed(mut self, joins: bool, payload: Payload) -> Fifo
-        requires { ⌜ inRange self ≡ true ⌝ }
-        requires { ⌜ (joins ≡ true → ready (queueOf self) ≡ true) ⌝ }
-        ensures { λ r. ⌜ trusted r ≡ well (record { depth = self .depth; held = queueOf self .held ++ when joins (payload ∷ []) }) ⌝ }
-    {
-        if joins {
-            let end = wrap(self.depth, self.oldest + self.count);
-            let slots = self.slots;
-            let joined = stored(slots, end, payload);
-            self.slots = joined;
-            self.count = self.count + 1;
-            return self;
+        Span {
+            oldest: self.oldest,
+            count: self.count,
         }
-        self
     }
 }

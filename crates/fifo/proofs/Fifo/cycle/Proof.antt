@@ -1,11 +1,16 @@
--- `Fifo::cycle` meets its contract: a pop, and then a push of what is offered while ready, make the rule's next queue. Assumes nothing.
-use mathlib.Core.Bool.{Bool, _&&_}
+-- `Fifo::cycle` meets its contract: the payload shown is at the position of the oldest, and the FIFO that is built is the one
+-- that a pop, and then a push of what is offered while ready, would leave, which is the rule's next queue. Assumes nothing.
+use Prim.Native.Nat.{_<_}
+use native.Mathlib.Omega.{arith}
+use mathlib.Core.Bool.{Bool, true, _&&_}
+use mathlib.Core.List.{[], _∷_}
+use mathlib.Core.Logic.{⊎-elim}
 use mathlib.Core.Path.{_≡_, sym, ap, _∙_}
 use borrow.Author.Needs.{needs}
-use Rattle.signals.proofs.Bools.{both}
-use Rattle.fifo.specs.Queue.{well, ready}
-use Rattle.fifo.specs.Ring.{queueOf, trusted}
-use Rattle.fifo.proofs.Form.{trusted-well, shows-count, popQueue, pop-keeps-room, push-makes-next}
+use Rattle.fifo.specs.declared.Fifo.{Fifo}
+use Rattle.fifo.specs.Queue.{well, ready, shown, shownAs, next, when, maxDepth}
+use Rattle.fifo.specs.Ring.{queueOf, inRange, trusted}
+use Rattle.fifo.proofs.Form.{oldest-within, count-within, place-within, shows-count, shows-oldest, shows-zeros, popQueue, pop-in-range, push-makes-next, no-push}
 use Rattle.fifo.proofs.Fifo.cycle.Statement.{statement}
 use Rattle.fifo.proofs.Fifo.cycle.Tie as tie
 
@@ -18,45 +23,97 @@ silent-requires c κs = search needs
 returns : tie.Need-returns
 returns c = rw (c .before .before .if1 .taken, c .silent .ensures, c .before .emptied .ensures)
 
-shown-requires : tie.Need-shown-requires
-shown-requires c κs = search needs
+has-room-requires : tie.Need-has-room-requires
+has-room-requires c κs = search needs
+
+all-sixteen-requires : tie.Need-all-sixteen-requires
+all-sixteen-requires c κs = search needs
+
+-- the function's start, as seen from where the slots have been copied out
+abbrev start : tie.After-all-sixteen → tie.Start
+start c = c .before .before .before .before
+
+-- ready is that of the list at the cycle's start
+room : (c : tie.After-all-sixteen) → c .before .before .has-room .result ≡ ready (queueOf (start c .args .self))
+room c = c .before .before .has-room .ensures
+
+mul-shown : tie.Need-mul-shown
+mul-shown c = let a = start (c .before) in omega (arith, oldest-within (a .args .self) (a .pre))
+
+array-copy-out-shown : tie.Need-array-copy-out-shown
+array-copy-out-shown c = let a = start (c .before) in omega (arith, oldest-within (a .args .self) (a .pre))
+
+-- what is shown is the oldest, or zeros
+shows : (c : tie.Joined2) → c .if2 .shown ≡ shownAs (shown (queueOf (start (c .before) .args .self)))
+shows c =
+    let f = start (c .before) .args .self in
+    ⊎-elim (λ w. w .2 ∙ sym (shows-oldest f (w .0 .taken))) (λ w. w .1 ∙ sym (shows-zeros f (w .0 .left))) (c .if2 .came)
 
 popped-requires : tie.Need-popped-requires
 popped-requires c κs = search needs
 
--- the oldest leaves where the sink is ready
-pops : (c : tie.After-popped) → trusted (c .popped .result) ≡ well (popQueue (queueOf (c .before .before .before .args .self)) (c .before .before .before .args .sink))
+-- the FIFO from which the oldest has left where the sink is ready
+abbrev popped : tie.After-popped → Fifo
+popped c =
+    let f = start (c .before .before) .args .self in
+    record { depth = f .depth; count = c .popped .result .count; oldest = c .popped .result .oldest; slots = f .slots }
+
+pops : (c : tie.After-popped) → let a = start (c .before .before) .args in trusted (popped c) ≡ well (popQueue (queueOf (a .self)) (a .sink))
 pops c = c .popped .ensures
 
-has-room-requires : tie.Need-has-room-requires
-has-room-requires c κs = search needs
+in-range : (c : tie.After-popped) → inRange (popped c) ≡ true
+in-range c = let a = start (c .before .before) .args in pop-in-range (a .self) (popped c) (a .sink) (pops c)
 
--- ready is that of the list at the cycle's start
-room : (c : tie.After-has-room) → c .has-room .result ≡ ready (queueOf (c .before .before .before .before .args .self))
-room c = c .has-room .ensures
+add-wrap : tie.Need-add-wrap
+add-wrap c =
+    let f = popped (c .before) in
+    let e = in-range (c .before) in omega (arith, oldest-within f e, count-within f e)
 
-pushed-requires : tie.Need-pushed-requires
-pushed-requires c κs =
-    let a = c .before .before .before .before .args in
-    let popped = c .before .popped .result in (
-      trusted-well popped _ (pops (c .before)) .0,
-      λ joins. pop-keeps-room (a .self) popped (a .sink) (pops (c .before))
-          (sym (room c) ∙ both (a .valid) (c .has-room .result) joins .1),
-    )
+wrap-requires : tie.Need-wrap-requires
+wrap-requires c κs = search needs
+
+-- the slot past the end is within the slots
+end-below : (c : tie.After-wrap) → c .wrap .result < maxDepth
+end-below c = let d = c .before .before in rw (c .wrap .ensures) (place-within (popped d) _ (in-range d) (omega arith))
+
+mul-slots : tie.Need-mul-slots
+mul-slots c = omega (arith, end-below c)
+
+array-set-from-slots : tie.Need-array-set-from-slots
+array-set-from-slots c = end-below c
+
+add-held : tie.Need-add-held
+add-held c = let d = c .before .before in omega (arith, count-within (popped d) (in-range d))
+
+-- the FIFO that is built
+abbrev built : tie.Joined3 → Fifo
+built c =
+    record { depth = popped (c .before) .depth; count = c .if3 .held; oldest = popped (c .before) .oldest; slots = c .if3 .slots }
+
+-- whether or not a payload joined, it is the rule's next
+gives : (c : tie.Joined3) → let a = start (c .before .before .before) .args in
+    trusted (built c) ≡ well (next (queueOf (a .self)) (when (a .valid) (a .payload ∷ [])) (a .sink))
+gives c =
+    let copied = c .before .before .before in
+    let a = start copied .args in
+    let p = popped (c .before) in
+    let leaves = pops (c .before) in
+    let joins = sym (ap (λ (b : Bool). a .valid && b) (room copied)) in
+    ⊎-elim
+    (λ w. rw (w .2, w .3, w .1 .ensures)
+    (push-makes-next (a .self) p (a .sink) leaves (a .valid) (a .payload) (copied .all-sixteen .ensures) (joins ∙ w .0 .taken)))
+    (λ w. rw (w .1, w .2) (no-push (a .self) p (a .sink) leaves (a .valid) (a .payload) (joins ∙ w .0 .left)))
+    (c .if3 .came)
 
 returns-2 : tie.Need-returns-2
 returns-2 c =
-    let a = c .before .before .before .before .before .before .args in
-    let pushed = c .before .pushed in
-    let popped = c .before .before .before .popped .result in
-    let ready-now = room (c .before .before) in
-    let joins = ap (λ (b : Bool). a .valid && b) ready-now in
+    let copied = c .before .before .before in
     rw (
-      c .before .before .before .before .before .if1 .left,
-      push-makes-next (a .self) popped (a .sink) (pops (c .before .before .before)) (pushed .result) (a .valid) _ (a .payload) joins (pushed .ensures),
-      ready-now,
-      c .before .before .before .before .shown .ensures,
-      shows-count (a .self),
+      copied .before .before .before .if1 .left,
+      room copied,
+      shows (c .before .before),
+      gives c,
+      shows-count (start copied .args .self),
     )
 
 pub cycle-spec : {M : Type 1} → statement M
@@ -66,8 +123,14 @@ cycle-spec =
     emptied-requires
     silent-requires
     returns
-    shown-requires
-    popped-requires
     has-room-requires
-    pushed-requires
+    all-sixteen-requires
+    mul-shown
+    array-copy-out-shown
+    popped-requires
+    add-wrap
+    wrap-requires
+    mul-slots
+    array-set-from-slots
+    add-held
     returns-2)

@@ -21,8 +21,8 @@ add-wrap c = let a = c .before .before .before in omega (arith, oldest-within (a
 wrap-requires : tie.Need-wrap-requires
 wrap-requires c κs = search needs
 
-sub-self : tie.Need-sub-self
-sub-self c =
+sub-count : tie.Need-sub-count
+sub-count c =
     let a = c .before .before .before .before .before in
     omega (arith, leaves (a .args .sink) (a .args .self .count) (c .before .before .before .if1 .taken) .1)
 
@@ -36,4 +36,4 @@ returns-2 : tie.Need-returns-2
 returns-2 c = let a = c .before .before in no-pop (a .args .self) (a .args .sink) (a .pre) (c .if1 .left)
 
 pub popped-spec : {M : Type 1} → statement M
-popped-spec = tie.close (tie.spec add-wrap wrap-requires sub-self returns returns-2)
+popped-spec = tie.close (tie.spec add-wrap wrap-requires sub-count returns returns-2)
