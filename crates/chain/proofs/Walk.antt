@@ -92,14 +92,14 @@ first-ready chain d sink f wide =
     let s = split-start (chain .fifos) (chain .count) (queues (value chain)) (f .row) in
     mouth-ready (chain .fifos) (chain .count) 0 d (queues (value chain)) sink (f .some) (omega (arith, f .most)) (s .from)
 
--- so far in a cycle: what is served is as the rule leaves it, and the rest of the row, fed with what the walk hands on, makes the rule's
--- row and outlet. The payload handed on is legal, and past the first FIFO it is the one shown
+-- so far in a cycle: what is served is as the rule leaves it, and the rest of the row, fed with what is handed on, makes the rule's row and outlet
 pub record Cycling (row : List Queue) (source : List Payload) (sink : Bool) (fs : List Fifo) (n i : ℕ) (offers : Bool) (p : Payload) : Type 0 where
   pub served : List Queue
   pub left : List Queue
   pub split : Split fs n i served left
   pub next : served ++ cycle left (when offers (p ∷ [])) sink ≡ cycle row source sink
   pub shows : outlet left (when offers (p ∷ [])) ≡ outlet row source
+  -- what is handed on is legal, and past the first FIFO it is what was shown
   pub legal : legalStrb p ≡ true
   pub as-shown : 0 < i → shownAs (when offers (p ∷ [])) ≡ p
 
