@@ -1,4 +1,4 @@
-// One cycle of a chain that has its form: from the mouth to the outlet, each FIFO by the lists at the cycle's start; or a clear.
+// One cycle of a chain that has its form: a run of one cycle, or a clear of all its FIFOs.
 ghost use mathlib.Core.Path.{_≡_};
 ghost use mathlib.Core.Bool.{Bool, true, false};
 ghost use Rattle.signals.specs.declared.Payload.{Payload};

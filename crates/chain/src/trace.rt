@@ -79,7 +79,7 @@ impl Chain {
     }
 
     // The cycles of a run that is not refused. In each the walk goes from the mouth to the outlet: a FIFO is offered what the one
-    // before it showed, and its sink is the one behind it as it was, since the walk has not come to it yet. What the last one shows is written.
+    // before it showed, and its sink is the one behind it as it was, since the walk has not come to it yet. What the last shows is written.
     pub(crate) fn traced(
         self,
         control: &[u8],
