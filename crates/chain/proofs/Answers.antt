@@ -1,7 +1,7 @@
 -- What the answers of calls show of the outlet is what the rules give, and no call is refused with 6.
 -- Idea: a step shows one cycle; what a run wrote over its outputs is taken back whole, and reads as the samples that it recorded.
 -- Assumes nothing.
-use Prim.Native.Nat.{ℕ, _+_, _*_, _/_, _%_, _≤_}
+use Prim.Native.Nat.{ℕ}
 use native.Mathlib.Omega.{arith}
 use mathlib.Core.Bool.{Bool, true, false, false≢true}
 use mathlib.Core.List.{List, [], _∷_, map}
@@ -17,11 +17,12 @@ use Rattle.signals.specs.Stream.{sample}
 use Rattle.signals.specs.Tables.{Row, firstOf}
 use Rattle.signals.proofs.Bools.{either, both, clash}
 use Rattle.signals.proofs.Tables.{none-keeps}
-use Rattle.fifo.specs.Queue.{Queue}
+use Rattle.fifo.specs.Queue.{Queue, isAny, shownAs}
 use Rattle.chain.specs.Line.{outlet}
 use Rattle.chain.specs.Cycles.{Cycle, offered, after, Outlet, sampleOf, outletIn, outletTrace}
 use Rattle.chain.specs.Calls.{Call, step, run, well, stepGrounds, runGrounds, grounds, recorded, controlByte, dataWord, writtenOver, answer, answerBy}
 use Rattle.chain.specs.Demand3.{cyclesBy, readBack, outletOf, refusalIn, NoClear}
+use Rattle.chain.proofs.Bytes.{byte-reads}
 use Rattle.chain.proofs.Tracing.{recorded-length, trace-length}
 
 -- A run's cycles have no clear.
@@ -31,20 +32,13 @@ recorded-no-clear (c ∷ cs) [] ss = tt
 recorded-no-clear (c ∷ cs) (w ∷ ws) [] = tt
 recorded-no-clear (c ∷ cs) (w ∷ ws) (s ∷ ss) = (refl, recorded-no-clear cs ws ss)
 
--- A control byte that was written, read again.
-byte-bits : (ready strb : ℕ) → ready ≤ 1 →
-    ((1 + 2 * ready + 16 * strb) % 2 ≡ 1) × ((1 + 2 * ready + 16 * strb) / 2 % 2 ≡ ready) × ((1 + 2 * ready + 16 * strb) / 16 ≡ strb)
-byte-bits ready strb h = (omega arith, omega arith, omega arith)
-
 abbrev showing : (ready : Bool) → List Payload → Outlet
 showing ready ps = record { clear = false; sample = sampleOf ready ps }
 
+-- A control byte that was written, read again.
 written-reads : (ready : Bool) (ps : List Payload) →
     sample (controlByte (showing ready ps)) (dataWord (showing ready ps)) ≡ sampleOf ready ps
-written-reads true [] = refl
-written-reads false [] = refl
-written-reads true (p ∷ ps) = let e = byte-bits 1 (p .strb) (omega arith) in rw (e .0, e .1, e .2)
-written-reads false (p ∷ ps) = let e = byte-bits 0 (p .strb) (omega arith) in rw (e .0, e .1, e .2)
+written-reads ready ps = byte-reads (isAny ps) ready (shownAs ps .strb) (shownAs ps .«data»)
 
 outlet-reads : (qs : List Queue) (c : Cycle) → c .clear ≡ false →
     record { clear = false; sample = sample (controlByte (outletIn qs c)) (dataWord (outletIn qs c)) } ≡ outletIn qs c

@@ -3,6 +3,7 @@ pub mod Used
 pub mod Walk
 pub mod Promising
 pub mod Filling
+pub mod Bytes
 pub mod Tracing
 pub mod Order
 pub mod Need

@@ -1,28 +1,25 @@
 -- A run over a trace: after `i` cycles the chain is where the first `i` of them lead, and the outputs hold what they write,
 -- then what stood there. One turn, over plain values. Assumes nothing.
-use mathlib.Core.Path.{_≡_, refl, sym, ap, _∙_}
+use mathlib.Core.Path.{_≡_, refl, sym, ap, ap₂, _∙_}
 use mathlib.Core.Bool.{Bool, true, false}
 use mathlib.Core.List.{List, [], _∷_, _++_, map, map-append}
-use Prim.Native.Nat.{ℕ, zero, suc, _+_, _*_, _%_, _≤_, _<_}
+use Prim.Native.Nat.{ℕ, zero, suc, _+_, _<_}
 use native.Mathlib.Omega.{arith}
 use native.Mathlib.Numerals.{add-one}
 use lib.Dec.{eqb}
 use lib.ListN.{length, getD, set, take, drop, length-map}
 use lib.Seq.{take-all, length-take-le}
 use Rattle.signals.specs.declared.Payload.{Payload}
-use Rattle.signals.specs.Stream.{sample, validBit, strbBits}
+use Rattle.signals.specs.Stream.{Sample, sample}
 use Rattle.signals.proofs.Writing.{writes-one}
 use Rattle.fifo.specs.Queue.{Queue, isAny, shownAs}
 use Rattle.chain.specs.Cycles.{Cycle, shownIn, after, afterAll, Outlet, outletIn, outletTrace}
 use Rattle.chain.specs.declared.Chain.{Chain}
-use Rattle.chain.specs.Calls.{well, isWell, queues, bit, recorded, controlByte, dataWord}
+use Rattle.chain.specs.Calls.{well, isWell, queues, bit, byteOf, recorded, controlByte, dataWord}
 use Rattle.chain.specs.Promises.{value}
 use Rattle.chain.specs.Cycling.{given, Sized, Traced}
 use Rattle.chain.proofs.Used.{well-queues}
-
-pub bit-most : (b : Bool) → bit b ≤ 1
-bit-most true = omega arith
-bit-most false = omega arith
+use Rattle.chain.proofs.Bytes.{bit-reads, byte-reads}
 
 -- the cycle that three entries record
 abbrev pub recordedAs : (control word sink : ℕ) → Cycle
@@ -83,7 +80,7 @@ module _ (qs : List Queue) (cs ws ss oldControls oldWords : List ℕ) (chain : C
       → let this = recordedAs (getD cs i 0) (getD ws i 0) (getD ss i 0) in
       value next ≡ well (after (queues (value chain)) this)
       → valid ≡ isAny (shownIn (queues (value chain)) this) → payload ≡ shownAs (shownIn (queues (value chain)) this)
-      → byte ≡ bit valid + 2 * bit (this .sink) + 16 * (payload .strb)
+      → byte ≡ byteOf valid (this .sink) (payload .strb)
       → Tracing qs (recorded cs ws ss) oldControls oldWords next (i + 1) (set controls i byte) (set words i (payload .«data»))
   tracing-on next valid payload byte h leads shows-valid shows-payload b =
       let past = take i (recorded cs ws ss) in
@@ -113,31 +110,18 @@ module _ (qs : List Queue) (cs ws ss oldControls oldWords : List ℕ) (chain : C
         writesWords = w .writesWords ∙ rw (all, made dataWord);
       }
 
-bit-one : (b : Bool) → eqb (bit b) 1 ≡ b
-bit-one true = refl
-bit-one false = refl
-
--- a control byte read back, where its reserved bits are 0
-byte-valid : (valid ready : Bool) (strb : ℕ) → validBit (bit valid + 2 * bit ready + 16 * strb) ≡ valid
-byte-valid valid ready strb =
-    let low : (bit valid + 2 * bit ready + 16 * strb) % 2 ≡ bit valid = omega (arith, bit-most valid) in rw low (bit-one valid)
-
-byte-strb : (valid ready : Bool) (strb : ℕ) → strbBits (bit valid + 2 * bit ready + 16 * strb) ≡ strb
-byte-strb valid ready strb = omega (arith, bit-most valid, bit-most ready)
-
 -- what a run over a trace of one cycle leaves and writes is that cycle's
 pub record TracedOne (qs : List Queue) (c : Cycle) (back : Chain) (control word : ℕ) : Type 0 where
   pub next : value back ≡ well (after qs c)
-  pub valid : validBit control ≡ isAny (shownIn qs c)
-  pub payload : record { «data» = word; strb = strbBits control } ≡ shownAs (shownIn qs c)
+  pub shows : sample control word ≡ outletIn qs c .sample
 
 pub traced-one : (qs : List Queue) (valid : Bool) (payload : Payload) (sink : Bool) (back : Chain) (exitControls exitWords : List ℕ)
-    → Traced qs ((bit valid + 2 * bit false + 16 * (payload .strb)) ∷ []) (payload .«data» ∷ []) (bit sink ∷ []) (0 ∷ []) (0 ∷ []) back exitControls exitWords
+    → Traced qs (byteOf valid false (payload .strb) ∷ []) (payload .«data» ∷ []) (bit sink ∷ []) (0 ∷ []) (0 ∷ []) back exitControls exitWords
     → TracedOne qs (given valid payload sink false) back (getD exitControls 0 0) (getD exitWords 0 0)
 traced-one qs valid payload sink back exitControls exitWords t =
     let this = given valid payload sink false in
-    let one : recordedAs (bit valid + 2 * bit false + 16 * (payload .strb)) (payload .«data») (bit sink) ≡ this =
-    rw (byte-valid valid false (payload .strb), byte-strb valid false (payload .strb), bit-one sink)
+    let one : recordedAs (byteOf valid false (payload .strb)) (payload .«data») (bit sink) ≡ this =
+    ap₂ (λ (s : Sample) (b : Bool). given (s .valid) (s .payload) b false) (byte-reads valid false (payload .strb) (payload .«data»)) (bit-reads sink)
     in
     let o = outletIn qs this in
     let control : getD exitControls 0 0 ≡ controlByte o =
@@ -148,6 +132,5 @@ traced-one qs valid payload sink back exitControls exitWords t =
     in
     record {
       next = t .next ∙ ap (λ (c : Cycle). well (after qs c)) one;
-      valid = rw control (byte-valid (o .sample .valid) sink (o .sample .payload .strb));
-      payload = rw (control, word, byte-strb (o .sample .valid) sink (o .sample .payload .strb));
+      shows = rw (control, word) (byte-reads (o .sample .valid) sink (o .sample .payload .strb) (o .sample .payload .«data»));
     }

@@ -80,12 +80,16 @@ abbrev pub asked : Call → List Cycle
 asked (step valid payload sink clear) = record { valid = valid; payload = payload; sink = sink; clear = clear } ∷ []
 asked (run controls words sinks outControls outWords) = recorded controls words sinks
 
--- the outlet's trace as a run writes it: bits 2 and 3 are 0
+-- a control byte by its fields: bits 2 and 3 are 0
 abbrev pub bit : Bool → ℕ
 bit b = cond b 1 0
 
+abbrev pub byteOf : (valid ready : Bool) (strb : ℕ) → ℕ
+byteOf valid ready strb = bit valid + 2 * bit ready + 16 * strb
+
+-- the outlet's trace as a run writes it
 abbrev pub controlByte : Outlet → ℕ
-controlByte o = bit (o .sample .valid) + 2 * bit (o .sample .ready) + 16 * (o .sample .payload .strb)
+controlByte o = byteOf (o .sample .valid) (o .sample .ready) (o .sample .payload .strb)
 
 abbrev pub dataWord : Outlet → ℕ
 dataWord o = o .sample .payload .«data»

@@ -2,13 +2,13 @@
 ghost use mathlib.Core.Path.{_≡_};
 ghost use mathlib.Core.Bool.{true};
 ghost use mathlib.Core.List.{List};
-ghost use Prim.Native.Nat.{ℕ, _+_, _*_, _≤_};
+ghost use Prim.Native.Nat.{ℕ, _≤_};
 ghost use lib.ListN.{length};
 ghost use lib.Dec.{ltb};
 ghost use Rattle.signals.specs.Payloads.{maxStrb};
 ghost use Rattle.signals.specs.Refusals.{refusalOf, anyOf};
 ghost use Rattle.signals.specs.Tables.{firstOf};
-ghost use Rattle.chain.specs.Calls.{isWell, queues, bit as bitOf, runGrounds};
+ghost use Rattle.chain.specs.Calls.{isWell, queues, bit as bitOf, byteOf, runGrounds};
 ghost use Rattle.chain.specs.Promises.{value};
 ghost use Rattle.chain.specs.Cycling.{Sized, Traced};
 use super::Chain;
@@ -41,7 +41,7 @@ pub(crate) fn bit(b: bool) -> u8
 // The control byte that records valid, ready and strb; its reserved bits are 0.
 pub(crate) fn control_byte(valid: bool, ready: bool, strb: u8) -> u8
     requires { ⌜ strb ≤ maxStrb ⌝ }
-    ensures { λ r. ⌜ r ≡ bitOf valid + 2 * bitOf ready + 16 * strb ⌝ }
+    ensures { λ r. ⌜ r ≡ byteOf valid ready strb ⌝ }
 {
     bit(valid) + 2 * bit(ready) + 16 * strb
 }

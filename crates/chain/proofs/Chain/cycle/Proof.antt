@@ -1,11 +1,11 @@
 -- `Chain::cycle` meets its contract: a run over a trace of one cycle makes that cycle (`traced-one`), and the chain's ready is its first
 -- FIFO's. Assumes nothing.
-use mathlib.Core.Path.{_≡_, refl, _∙_}
+use mathlib.Core.Path.{_≡_, refl, ap, _∙_}
 use mathlib.Core.Bool.{false}
-use Prim.Native.Nat.{_+_, _*_}
 use lib.ListN.{getD}
+use Rattle.signals.specs.Stream.{Sample}
 use Rattle.chain.specs.Cycles.{readyIn}
-use Rattle.chain.specs.Calls.{queues, bit}
+use Rattle.chain.specs.Calls.{queues, bit, byteOf}
 use Rattle.chain.specs.Promises.{value}
 use Rattle.chain.specs.Cycling.{given}
 use Rattle.chain.proofs.Used.{formed}
@@ -71,7 +71,7 @@ ready c =
 -- the offer's control byte and the sink's entry
 offer-byte : (c : tie.After-control-byte) →
     let a = c .before .before .before .before .args in
-    c .control-byte .result ≡ bit (a .valid) + 2 * bit false + 16 * (a .payload .strb)
+    c .control-byte .result ≡ byteOf (a .valid) false (a .payload .strb)
 offer-byte c = c .control-byte .ensures
 
 sink-entry : (c : tie.After-bit) → c .bit .result ≡ bit (c .before .before .before .before .before .args .sink)
@@ -96,8 +96,8 @@ returns c =
     record {
       refusal = refl;
       ready = ready (run .before .before .before .before .before .before .before .before);
-      valid = c .valid .ensures ∙ t .valid;
-      payload = rw (c .before .strb .ensures) (t .payload);
+      valid = c .valid .ensures ∙ ap (λ (s : Sample). s .valid) (t .shows);
+      payload = rw (c .before .strb .ensures) (ap (λ (s : Sample). s .payload) (t .shows));
       next = t .next;
     }
 

@@ -11,7 +11,8 @@ use lib.Dec.{eqb}
 use lib.ListN.{length, getD, length-set}
 use Rattle.signals.specs.Payloads.{maxStrb}
 use Rattle.fifo.specs.Queue as queue
-use Rattle.fifo.specs.Queue.{Queue, when}
+use Rattle.fifo.specs.Queue.{Queue, readyOf, when}
+use Rattle.fifo.specs.Promises.{trusted}
 use Rattle.chain.specs.Line.{mouth}
 use Rattle.chain.specs.Cycles.{offered}
 use Rattle.chain.specs.Calls.{isWell, queues, maxFifos, recorded}
@@ -133,7 +134,9 @@ behind-it c others e =
     let n = turn (c .before .before .before .before) .before .loop .chain .count in
     let v = w .inv .1 in
     ⊎-elim
-    (λ a. a .3 ∙ a .2 .ensures ∙ mouth-ready (w .chain .fifos) n (w .j + 1) _ others _ (omega (arith, a .0 .taken, v .1 .1 .1 .0)) (omega (arith, v .1 .0, v .1 .1 .1)) e)
+    (λ a.
+    let asked : a .2 .result ≡ readyOf (trusted (getD (w .chain .fifos) (w .j + 1) _)) = a .2 .ensures in
+    a .3 ∙ asked ∙ mouth-ready (w .chain .fifos) n (w .j + 1) _ others _ (omega (arith, a .0 .taken, v .1 .1 .1 .0)) (omega (arith, v .1 .0, v .1 .1 .1)) e)
     (λ a. a .1 ∙ mouth-sink (w .chain .fifos) n (w .j + 1) others _ (omega (arith, a .0 .left, v .1 .1 .1 .0)) e)
     (c .if1 .came)
 

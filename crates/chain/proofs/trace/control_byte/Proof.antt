@@ -1,7 +1,7 @@
 -- `trace::control_byte` meets its contract: each bit is at most 1, and the strobe at most 15. Assumes nothing.
 use borrow.Author.Needs.{needs}
 use native.Mathlib.Omega.{arith}
-use Rattle.chain.proofs.Tracing.{bit-most}
+use Rattle.chain.proofs.Bytes.{bit-most}
 use Rattle.chain.proofs.trace.control_byte.Statement.{statement}
 use Rattle.chain.proofs.trace.control_byte.Tie as tie
 
