@@ -4,7 +4,7 @@ use Prim.Native.Nat.{ℕ}
 use mathlib.Core.Bool.{Bool, true, false, cond, false≢true}
 use mathlib.Core.List.{List, [], _∷_}
 use mathlib.Core.Logic.{⊎-elim}
-use mathlib.Core.Option.{Option, some}
+use mathlib.Core.Option.{Option, none, some}
 use mathlib.Core.Path.{_≡_, refl, sym, ap, _∙_}
 use Rattle.signals.specs.declared.Payload.{Payload}
 use Rattle.signals.specs.declared.Refusal.{Refusal}
@@ -41,6 +41,12 @@ step-refused : (v : Value) (offer sink clear : Bool) (p : Payload) (number : ℕ
     → stepOf v offer p sink clear ≡ refused number v
 unfolding stepOf
 step-refused v offer sink clear p number e = ap (λ (o : Option ℕ). stepBy o v offer p sink clear) e
+
+-- an answer whose parts are the cycle's is the cycle's
+pub parts-cycle : (q : Queue) (offer : List Payload) (sink is-ready valid : Bool) (p : Payload) (v : Value)
+    → is-ready ≡ ready q → valid ≡ isAny (shown q) → p ≡ shownAs (shown q) → v ≡ well (next q offer sink)
+    → record { refusal = none; ready = is-ready; valid = valid; payload = p; next = v } ≡ cycled q offer sink
+parts-cycle q offer sink is-ready valid p v by-ready by-valid by-payload by-next = rw (by-ready, by-valid, by-payload, by-next)
 
 -- the code's refusal is the rule's where its number is the one that is given
 pub refusal-steps : (valueOf : Fifo → Value) (f : Fifo) (offer sink clear : Bool) (p : Payload) (why : Refusal) (r : Stepped)

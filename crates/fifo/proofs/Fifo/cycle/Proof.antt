@@ -11,6 +11,7 @@ use Rattle.fifo.specs.declared.Fifo.{Fifo}
 use Rattle.fifo.specs.Queue.{well, ready, shown, shownAs, next, when, maxDepth}
 use Rattle.fifo.specs.Ring.{queueOf, inRange, trusted}
 use Rattle.fifo.proofs.Form.{oldest-within, count-within, place-within, shows-count, shows-oldest, shows-zeros, popQueue, pop-in-range, push-makes-next, no-push}
+use Rattle.fifo.proofs.Stepping.{parts-cycle}
 use Rattle.fifo.proofs.Fifo.cycle.Statement.{statement}
 use Rattle.fifo.proofs.Fifo.cycle.Tie as tie
 
@@ -108,13 +109,9 @@ gives c =
 returns-2 : tie.Need-returns-2
 returns-2 c =
     let copied = c .before .before .before in
-    rw (
-      copied .before .before .before .if1 .left,
-      room copied,
-      shows (c .before .before),
-      gives c,
-      shows-count (start copied .args .self),
-    )
+    let a = start copied .args in
+    rw (copied .before .before .before .if1 .left)
+    (parts-cycle (queueOf (a .self)) (when (a .valid) (a .payload ∷ [])) (a .sink) _ _ _ _ (room copied) (sym (shows-count (a .self))) (shows (c .before .before)) (gives c))
 
 pub cycle-spec : {M : Type 1} → statement M
 cycle-spec =
