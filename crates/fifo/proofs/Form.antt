@@ -1,6 +1,6 @@
 -- A FIFO's numbers in range, as facts (`Form`) and as the test, and how emptying, popping and pushing keep them.
 -- Each of the three is said of the FIFO with the numbers and slots of the code, and gives the queue that it stands for. Assumes nothing.
-use Prim.Native.Nat.{ℕ, zero, suc, _+_, _-_, _≤_, _<_}
+use Prim.Native.Nat.{ℕ, zero, suc, _+_, _-_, _*_, _≤_, _<_}
 use native.Mathlib.Numerals.{add-one}
 use native.Mathlib.Omega.{arith}
 use mathlib.Core.Bool.{Bool, true, false, cond, _&&_, false≢true}
@@ -14,9 +14,10 @@ use Rattle.signals.specs.Payloads.{zeros}
 use Rattle.signals.proofs.Bools.{both, clash}
 use Rattle.fifo.specs.declared.Fifo.{Fifo}
 use Rattle.fifo.specs.Queue.{Queue, ill, well, readyOf, capacity, maxDepth, legalDepth, empty, ready, rest, isAny, oldest, shown, shownAs, when, next}
-use Rattle.fifo.specs.Ring.{ring, wrapped, queueOf, inRange, trusted}
-use Rattle.fifo.proofs.Depths.{depth-most, capacity-most}
-use Rattle.fifo.proofs.Slots.{wrapped-below, ring-length, ring-oldest, store-joins-end}
+use Rattle.fifo.specs.Ring.{ring, wrapped, queueOf, inRange, trusted, EveryPlace}
+use Rattle.fifo.proofs.Depths.{depth-most, capacity-least, capacity-most}
+use Rattle.fifo.proofs.Places.{place-is-remainder, wrapped-below}
+use Rattle.fifo.proofs.Slots.{ring-length, ring-oldest, ring-at, store-joins-end}
 
 pub record Form (f : Fifo) : Type 0 where
   pub depth : legalDepth (f .depth) ≡ true
@@ -30,6 +31,10 @@ form-of f e =
     let b = both (ltb (f .oldest) (f .depth)) _ (a .1) in
     record { depth = a .0; oldest = ltb-true _ _ (b .0); count = leb-true _ _ (b .1) }
 
+-- from the position, a count up to the capacity passes the end of the ring at most once
+sum-once : (f : Fifo) → Form f → (count : ℕ) → count ≤ capacity (queueOf f) → f .oldest + count < 2 * f .depth
+sum-once f form count most = omega (arith, form .oldest, capacity-most (queueOf f))
+
 -- the numbers are those of the slots
 pub oldest-within : (f : Fifo) → inRange f ≡ true → f .oldest < maxDepth
 oldest-within f e = let form = form-of f e in omega (arith, form .oldest, depth-most (f .depth) (form .depth))
@@ -38,13 +43,23 @@ pub count-within : (f : Fifo) → inRange f ≡ true → f .count ≤ maxDepth
 count-within f e =
     let form = form-of f e in omega (arith, form .count, capacity-most (queueOf f), depth-most (f .depth) (form .depth))
 
+pub every-place : EveryPlace
+every-place f e =
+    let form = form-of f e in
+    record {
+      once = sum-once f form;
+      end = place-is-remainder (f .depth) (f .oldest) (f .count) (sum-once f form (f .count) (form .count));
+      next-oldest = place-is-remainder (f .depth) (f .oldest) 1 (sum-once f form 1 (omega (arith, capacity-least (queueOf f) (form .depth))));
+      held = λ i below. ring-at (f .slots) (f .depth) (f .oldest) (f .count) i (form .oldest) below;
+    }
+
 -- a place up to the end has its slot within the slots
-pub place-within : (f : Fifo) (place : ℕ) → inRange f ≡ true → place ≤ f .oldest + f .count → wrapped (f .depth) place < maxDepth
-place-within f place e most =
+pub place-within : (f : Fifo) (count : ℕ) → inRange f ≡ true → count ≤ f .count → wrapped (f .depth) (f .oldest + count) < maxDepth
+place-within f count e most =
     let form = form-of f e in
     omega (
       arith,
-      wrapped-below (f .depth) place (omega (arith, form .oldest, form .count, capacity-most (queueOf f))),
+      wrapped-below (f .depth) (f .oldest) count (sum-once f form count (omega (arith, form .count))),
       depth-most (f .depth) (form .depth),
     )
 
@@ -122,7 +137,7 @@ pop-leaves-rest f e some =
     trusted-form (afterPop f)
     (record {
       depth = form .depth;
-      oldest = wrapped-below (f .depth) (f .oldest + 1) (omega (arith, form .oldest));
+      oldest = wrapped-below (f .depth) (f .oldest) 1 (omega (arith, form .oldest));
       count = omega (arith, form .count);
     })
     ∙ ap (λ (l : List Payload). well (record { depth = f .depth; held = l }))

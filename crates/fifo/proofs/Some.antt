@@ -14,7 +14,7 @@ use Rattle.fifo.specs.declared.Fifo.{Fifo}
 use Rattle.fifo.specs.Queue.{Queue, well, capacity, maxDepth, legalDepth, legalStrbs}
 use Rattle.fifo.specs.Ring.{ring, value}
 use Rattle.fifo.proofs.Depths.{depth-least, depth-most, capacity-most}
-use Rattle.fifo.proofs.Slots.{wrapped-in}
+use Rattle.fifo.proofs.Places.{wrapped-inside}
 use Rattle.fifo.proofs.Form.{trusted-form}
 use Rattle.fifo.proofs.Strobes.{value-of-trusted}
 
@@ -24,7 +24,7 @@ unfolding ring
 unwrapped slots depth at zero h i = refl
 unwrapped slots depth at (suc zero) h i = rw (drop-cons slots at zeros (omega arith))
 unwrapped slots depth at (suc (suc n)) h i =
-    rw (wrapped-in depth (at + 1) (omega arith), drop-cons slots at zeros (omega arith))
+    rw (wrapped-inside depth at 1 (omega arith), drop-cons slots at zeros (omega arith))
     (ap {B = List Payload} (λ l. getD slots at zeros ∷ l) (unwrapped slots depth (at + 1) (suc n) (omega arith) i ∙ rw (add-one at)))
 
 -- the slots past the held ones

@@ -1,7 +1,8 @@
 -- Which value a `Fifo` stands for: its payloads lie in a ring of `depth` slots, from the position of the oldest on. Assumes nothing.
-use Prim.Native.Nat.{ℕ, zero, suc, _+_, _-_}
-use mathlib.Core.Bool.{Bool, cond, _&&_}
+use Prim.Native.Nat.{ℕ, zero, suc, _+_, _-_, _*_, _%_, _<_, _≤_}
+use mathlib.Core.Bool.{Bool, true, cond, _&&_}
 use mathlib.Core.List.{List, [], _∷_}
+use mathlib.Core.Path.{_≡_}
 use lib.ListN.{getD}
 use lib.Dec.{leb, ltb}
 use Rattle.signals.specs.declared.Payload.{Payload}
@@ -9,11 +10,20 @@ use Rattle.signals.specs.Payloads.{zeros}
 use Rattle.fifo.specs.declared.Fifo.{Fifo}
 use Rattle.fifo.specs.Queue.{Queue, Value, ill, well, capacity, legalDepth, legalStrbs}
 
--- the slot at a place that has passed the end of the ring at most once
-unfoldable pub wrapped : ℕ → ℕ → ℕ
-wrapped depth place = cond (ltb place depth) place (place - depth)
+-- whether a place has not passed the end of the ring
+abbrev pub isInside : (depth place : ℕ) → Bool
+isInside depth place = ltb place depth
 
--- n payloads from the slot `at` on
+-- the slot at a place that has passed the end of the ring at most once, found by a comparison
+unfoldable pub wrapped : (depth place : ℕ) → ℕ
+wrapped depth place = cond (isInside depth place) place (place - depth)
+
+-- Request T-02: of a sum below twice the depth it is the slot that a remainder gives. The code's `wrap`, and `ring`, are this place.
+abbrev pub PlaceIsRemainder : Type 0
+PlaceIsRemainder =
+    (depth position count : ℕ) → position + count < 2 * depth → wrapped depth (position + count) ≡ (position + count) % depth
+
+-- n payloads from the slot `at` on, each at the place after the one before
 unfoldable pub ring : List Payload → (depth at n : ℕ) → List Payload
 ring slots depth at zero = []
 ring slots depth at (suc n) = getD slots at zeros ∷ ring slots depth (wrapped depth (at + 1)) n
@@ -25,6 +35,21 @@ queueOf f = record { depth = f .depth; held = ring (f .slots) (f .depth) (f .old
 -- the numbers are in range: a legal depth, a position below it, and no more held than the capacity
 unfoldable pub inRange : Fifo → Bool
 inRange f = legalDepth (f .depth) && (ltb (f .oldest) (f .depth) && leb (f .count) (capacity (queueOf f)))
+
+-- A FIFO's places are the remainders'.
+pub record ByRemainder (f : Fifo) : Type 0 where
+  -- from its position, every count up to its capacity gives a sum below twice its depth
+  pub once : (count : ℕ) → count ≤ capacity (queueOf f) → f .oldest + count < 2 * f .depth
+  -- where the next payload joins
+  pub end : wrapped (f .depth) (f .oldest + f .count) ≡ (f .oldest + f .count) % f .depth
+  -- where the next oldest lies
+  pub next-oldest : wrapped (f .depth) (f .oldest + 1) ≡ (f .oldest + 1) % f .depth
+  -- where held payload i lies, the oldest being 0
+  pub held : (i : ℕ) → i < f .count → getD (queueOf f .held) i zeros ≡ getD (f .slots) ((f .oldest + i) % f .depth) zeros
+
+-- so it is for every FIFO whose numbers are in range, that is for every legal depth, position and count
+abbrev pub EveryPlace : Type 0
+EveryPlace = (f : Fifo) → inRange f ≡ true → ByRemainder f
 
 -- the value by the numbers alone, and the value by the held strobes too
 unfoldable pub trusted : Fifo → Value

@@ -17,11 +17,12 @@ pub(crate) struct Span {
     pub count: usize,
 }
 
-// The slot at a place that has passed the end of the ring at most once.
+// The slot at a place that has passed the end of the ring at most once: the one that a remainder would give, found by a comparison.
 pub(crate) fn wrap(depth: usize, place: usize) -> usize
     ensures { λ r. ⌜ r ≡ wrapped depth place ⌝ }
 {
-    if place < depth { place } else { place - depth }
+    let inside = place < depth;
+    if inside { place } else { place - depth }
 }
 
 // Says that an array of sixteen has sixteen elements, which is not known of one that is a field.

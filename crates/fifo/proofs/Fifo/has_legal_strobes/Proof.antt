@@ -7,7 +7,8 @@ use Rattle.fifo.specs.Queue.{legalStrbs, maxDepth}
 use Rattle.fifo.specs.Ring.{ring, queueOf}
 use Rattle.fifo.proofs.Depths.{depth-most}
 use Rattle.fifo.proofs.Form.{form-of}
-use Rattle.fifo.proofs.Slots.{wrapped-below, strobe-legal, strobe-illegal}
+use Rattle.fifo.proofs.Places.{wrapped-below}
+use Rattle.fifo.proofs.Slots.{strobe-legal, strobe-illegal}
 use Rattle.fifo.proofs.Fifo.has_legal_strobes.Statement.{statement}
 use Rattle.fifo.proofs.Fifo.has_legal_strobes.Tie as tie
 
@@ -51,7 +52,7 @@ loop-again c =
     let f = c .before .before .before .before .before .before .args .t1 in
     rw (c .wrap .ensures) (
       l .inv .0 ∙ strobe-legal (f .slots) (f .depth) (l .at) (l .left) (search needs) (c .before .if1 .left),
-      (wrapped-below (f .depth) (l .at + 1) (omega arith), l .inv .1 .1),
+      (wrapped-below (f .depth) (l .at) 1 (omega arith), l .inv .1 .1),
     )
 
 returns-2 : tie.Need-returns-2 Inv-loop μ-loop

@@ -1,14 +1,26 @@
 -- `wrap` meets its contract: the comparison is the definition's. Assumes nothing.
-use mathlib.Core.Path.{sym}
-use Rattle.fifo.proofs.Slots.{wrapped-in, wrapped-out}
+use native.Mathlib.Omega.{arith}
+use mathlib.Core.Bool.{true, false}
+use mathlib.Core.Path.{_≡_}
+use borrow.Author.Tests.{leb-true, leb-false, le-leb, lt-leb}
+use Rattle.fifo.specs.Ring.{isInside, wrapped}
 use Rattle.fifo.proofs.ring.wrap.Statement.{statement}
 use Rattle.fifo.proofs.ring.wrap.Tie as tie
 
+sub-result : tie.Need-sub-result
+sub-result c = omega (arith, leb-false)
+
 returns : tie.Need-returns
-returns c = sym (wrapped-in _ _ (c .if1 .taken))
+unfolding wrapped
+returns c =
+    let a = c .before .args in
+    let inside : isInside (a .depth) (a .place) ≡ true = omega (arith, leb-true, le-leb) in rw inside
 
 returns-2 : tie.Need-returns-2
-returns-2 c = sym (wrapped-out _ _ (c .if1 .left))
+unfolding wrapped
+returns-2 c =
+    let a = c .before .args in
+    let outside : isInside (a .depth) (a .place) ≡ false = omega (arith, leb-false, lt-leb) in rw outside
 
 pub wrap-spec : {M : Type 1} → statement M
-wrap-spec = tie.close (tie.spec returns returns-2)
+wrap-spec = tie.close (tie.spec sub-result returns returns-2)
