@@ -35,7 +35,11 @@ pub fn any_depth(random: &Random) -> usize {
 pub fn well_fifo(random: &Random) -> Fifo {
     let depth = legal_depth(random);
     let count = random.pick(&[0, 1, depth - 1, depth, random.below(depth + 1)]);
-    let oldest = random.below(depth);
+    filled_fifo(random, depth, random.below(depth), count)
+}
+
+/// A well-formed FIFO of these numbers. Unused slots hold anything.
+pub fn filled_fifo(random: &Random, depth: usize, oldest: usize, count: usize) -> Fifo {
     let mut slots = [(); MAX_DEPTH].map(|()| Payload {
         data: random.word(),
         strb: random.byte(),

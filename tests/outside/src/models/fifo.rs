@@ -79,6 +79,21 @@ impl Stage {
     }
 }
 
+/// A cycle with no clear of a well-formed stage as it is kept: its slots are those that a remainder gives, and no payload that
+/// stays is moved.
+pub fn kept_after(fifo: &Fifo, offer: Option<Payload>, sink: bool) -> Fifo {
+    let mut next = *fifo;
+    if sink && fifo.count > 0 {
+        next.oldest = (fifo.oldest + 1) % fifo.depth;
+        next.count -= 1;
+    }
+    if let Some(payload) = offer.filter(|_| fifo.count < fifo.depth) {
+        next.slots[(next.oldest + next.count) % fifo.depth] = payload;
+        next.count += 1;
+    }
+    next
+}
+
 pub fn new_fifo(depth: usize) -> (u8, Stage) {
     if legal_depth(depth) {
         (0, Stage::empty(depth))

@@ -1,4 +1,4 @@
-use outside::answers::{Fifo, Payload, Stepped};
+use outside::answers::{Fifo, Payload, Stepped, MAX_DEPTH};
 use outside::models::fifo::{self, Shown, Stage};
 use outside::random::{agree, same, Compared, Random};
 use outside::{linked, states};
@@ -48,6 +48,33 @@ pub fn compare(
         refusal = answer.refusal;
     }
     Ok(refusal.to_string())
+}
+
+/// A step of a FIFO of every legal depth, position and count, as it is kept, with each offer and sink.
+pub fn compare_places(
+    random: &Random,
+    call: impl Fn(Fifo, bool, Payload, bool, bool) -> Stepped<Fifo>,
+) -> Compared {
+    for depth in (2..=MAX_DEPTH).step_by(2) {
+        for (oldest, count) in (0..depth).flat_map(|o| (0..=depth).map(move |c| (o, c))) {
+            for (valid, sink) in [(false, false), (false, true), (true, false), (true, true)] {
+                let kept = states::filled_fifo(random, depth, oldest, count);
+                let payload = states::legal_payload(random);
+                let next = call(kept, valid, payload, sink, false).next;
+                let want = fifo::kept_after(&kept, valid.then_some(payload), sink);
+                let input = (kept, valid, payload, sink);
+                same("kept", &(next, input), &(want, input))?;
+            }
+        }
+    }
+    Ok("all".to_string())
+}
+
+#[test]
+fn fifo_places() {
+    agree(50, &["all"], |random| {
+        compare_places(random, linked::fifo_step)
+    });
 }
 
 #[test]

@@ -52,6 +52,20 @@ fn a_step_that_does_not_clear() {
 }
 
 #[test]
+fn held_payloads_shifted() {
+    // The same value, kept with its oldest in slot 0.
+    differs(|random| {
+        fifo::compare_places(random, |fifo, valid, payload, sink, clear| {
+            let mut stepped = linked::fifo_step(fifo, valid, payload, sink, clear);
+            let next = &mut stepped.next;
+            next.slots[..next.depth].rotate_left(next.oldest);
+            next.oldest = 0;
+            stepped
+        })
+    });
+}
+
+#[test]
 fn a_refused_state_altered() {
     differs(|random| {
         fifo::compare(random, |fifo, valid, payload, sink, clear| {
