@@ -2,17 +2,25 @@
 
 mod plain;
 
-use outside::answers::{Chain, Settings, StreamAnswer, BROKEN, CLEAN, SEQ};
+use outside::answers::*;
 use outside::linked;
 use outside::models::addressgen::START;
 use outside::models::chain::{Line, Offered};
+use outside::models::fifo::Stage;
 use outside::random::Random;
 use outside::traces::drawn_stream;
+use plain::{ByComparison, ByRemainder};
 use std::hint::black_box;
 use std::time::{Duration, Instant};
 
 const CYCLES: usize = 65_536;
 const REPETITIONS: usize = 41;
+
+/// The chains that are timed, by the depths of their FIFOs.
+const LINES: [(&str, &[usize]); 2] = [
+    ("one FIFO of depth 2", &[2]),
+    ("eight FIFOs of depth 16", &[16; 8]),
+];
 
 /// How long one of so many calls in a row takes.
 fn time(calls: u32, call: &mut dyn FnMut()) -> Duration {
@@ -101,44 +109,92 @@ fn streams(random: &Random) {
     stream(broken, (&control, &data), true, (BROKEN, SEQ, last));
 }
 
-fn chain(what: &str, random: &Random, depths: &[usize]) {
+/// Offers, and a sink that is ready in two cycles of three.
+fn drawn_offers(random: &Random) -> Offered {
     let (control, data) = drawn_stream(random, CYCLES, 6, 5);
     let sink = (0..CYCLES).map(|_| u8::from(!random.once_in(3))).collect();
-    let offered = Offered {
+    Offered {
         control,
         data,
         sink,
-    };
-    let new: Chain = linked::chain_new(depths).kept;
+    }
+}
+
+type Run = fn(Chain, &Offered, &mut [u8], &mut [u32]) -> Chain;
+
+fn proved_run(chain: Chain, offered: &Offered, control: &mut [u8], data: &mut [u32]) -> Chain {
+    linked::chain_run(chain, offered, control, data).next
+}
+
+fn chain(what: &str, random: &Random, depths: &[usize], one: Run, other: Run) {
+    let offered = drawn_offers(random);
+    let new = linked::chain_new(depths).kept;
     let mut out = (vec![0; CYCLES], vec![0; CYCLES]);
-    let mut plain_out = out.clone();
-    let proved_end = linked::chain_run(new, &offered, &mut out.0, &mut out.1).next;
-    let mut plain_end = new;
-    plain::run(&mut plain_end, &offered, &mut plain_out.0, &mut plain_out.1);
-    assert_eq!(out, plain_out);
-    assert_eq!(Line::of(&proved_end), Line::of(&plain_end));
+    let mut other_out = out.clone();
+    let end = one(new, &offered, &mut out.0, &mut out.1);
+    let other_end = other(new, &offered, &mut other_out.0, &mut other_out.1);
+    assert_eq!(out, other_out);
+    assert_eq!(Line::of(&end), Line::of(&other_end));
+    let timed = |run: Run, out: &mut (Vec<u8>, Vec<u32>)| {
+        let offered = black_box(&offered);
+        black_box(run(black_box(new), offered, &mut out.0, &mut out.1));
+    };
     compare(
         what,
-        || {
-            let offered = black_box(&offered);
-            black_box(linked::chain_run(
-                black_box(new),
-                offered,
-                &mut out.0,
-                &mut out.1,
-            ));
-        },
-        || {
-            let mut chain = black_box(new);
-            plain::run(
-                &mut chain,
-                black_box(&offered),
-                &mut plain_out.0,
-                &mut plain_out.1,
-            );
-            black_box(chain);
-        },
+        || timed(one, &mut out),
+        || timed(other, &mut other_out),
     );
+}
+
+type Step = fn(Fifo, bool, Payload, bool, bool) -> Stepped<Fifo>;
+
+/// A step for each cycle, each given the FIFO that the one before handed back.
+fn fifo(what: &str, random: &Random, depth: usize, one: Step, other: Step) {
+    let offered = drawn_offers(random);
+    let new = linked::fifo_new(depth).kept;
+    let stepped = |step: Step, fifo: Fifo, c: usize| {
+        let payload = Payload {
+            data: offered.data[c],
+            strb: offered.control[c] >> 4,
+        };
+        let (valid, sink) = (offered.control[c] & 1 == 1, offered.sink[c] == 1);
+        step(fifo, valid, payload, sink, false)
+    };
+    let (mut end, mut other_end) = (new, new);
+    for c in 0..CYCLES {
+        let (a, b) = (stepped(one, end, c), stepped(other, other_end, c));
+        let shown = |s: Stepped<Fifo>| (s.refusal, s.ready, s.valid, s.payload);
+        assert_eq!(shown(a), shown(b));
+        (end, other_end) = (a.next, b.next);
+        assert_eq!(Stage::of(&end), Stage::of(&other_end));
+    }
+    let timed = |step: Step| {
+        let mut fifo = black_box(new);
+        for c in 0..CYCLES {
+            fifo = black_box(stepped(step, fifo, c)).next;
+        }
+    };
+    compare(what, || timed(one), || timed(other));
+}
+
+/// What it saves to find a place in a ring by a comparison, in the proved calls and in plain Rust's own.
+fn places(random: &Random) {
+    let steps: [(&str, Step); 2] = [
+        ("proved", linked::fifo_step),
+        ("plain", plain::step::<ByComparison>),
+    ];
+    for (depth, (side, step)) in [2, 16].map(|depth| steps.map(|s| (depth, s))).concat() {
+        let what = format!("FIFO step, depth {depth}, {side}");
+        fifo(&what, random, depth, step, plain::step::<ByRemainder>);
+    }
+    let runs: [(&str, Run); 2] = [
+        ("proved", proved_run),
+        ("plain", plain::run::<ByComparison>),
+    ];
+    for ((line, depths), (side, run)) in LINES.map(|line| runs.map(|r| (line, r))).concat() {
+        let what = format!("chain, {line}, {side}");
+        chain(&what, random, depths, run, plain::run::<ByRemainder>);
+    }
 }
 
 fn addresses() {
@@ -178,7 +234,21 @@ fn main() {
     println!("{:5}   {:<57} {:>8} {:>8}", "ratio", "", "proved", "plain");
     let random = Random::new(1);
     streams(&random);
-    chain("chain, one FIFO of depth 2", &random, &[2]);
-    chain("chain, eight FIFOs of depth 16", &random, &[16; 8]);
+    for (line, depths) in LINES {
+        let what = format!("chain, {line}");
+        chain(
+            &what,
+            &random,
+            depths,
+            proved_run,
+            plain::run::<ByComparison>,
+        );
+    }
     addresses();
+    println!("\nratio of the time with a comparison for a place in a ring to plain Rust's with a remainder\n");
+    println!(
+        "{:5}   {:<57} {:>8} {:>8}",
+        "ratio", "", "compared", "divided"
+    );
+    places(&random);
 }

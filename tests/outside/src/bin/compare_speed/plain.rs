@@ -66,28 +66,115 @@ fn oldest(fifo: &Fifo) -> Option<Payload> {
     (fifo.count > 0).then(|| fifo.slots[fifo.oldest])
 }
 
-fn cycle(fifo: &mut Fifo, offer: Option<Payload>, sink: bool) {
+/// How a ring finds its places: that of the next oldest, and the one past the end.
+pub trait Places {
+    fn next(depth: usize, oldest: usize) -> usize;
+    fn end(depth: usize, oldest: usize, count: usize) -> usize;
+}
+
+pub struct ByComparison;
+
+impl Places for ByComparison {
+    fn next(depth: usize, oldest: usize) -> usize {
+        let next = oldest + 1;
+        if next == depth {
+            0
+        } else {
+            next
+        }
+    }
+
+    fn end(depth: usize, oldest: usize, count: usize) -> usize {
+        let mut end = oldest + count;
+        if end >= depth {
+            end -= depth;
+        }
+        end
+    }
+}
+
+pub struct ByRemainder;
+
+impl Places for ByRemainder {
+    fn next(depth: usize, oldest: usize) -> usize {
+        (oldest + 1) % depth
+    }
+
+    fn end(depth: usize, oldest: usize, count: usize) -> usize {
+        (oldest + count) % depth
+    }
+}
+
+fn cycle<P: Places>(fifo: &mut Fifo, offer: Option<Payload>, sink: bool) {
     let accepts = ready(fifo);
     if sink && fifo.count > 0 {
-        fifo.oldest += 1;
-        if fifo.oldest == fifo.depth {
-            fifo.oldest = 0;
-        }
+        fifo.oldest = P::next(fifo.depth, fifo.oldest);
         fifo.count -= 1;
     }
     if let (Some(payload), true) = (offer, accepts) {
-        let mut free = fifo.oldest + fifo.count;
-        if free >= fifo.depth {
-            free -= fifo.depth;
-        }
-        fifo.slots[free] = payload;
+        fifo.slots[P::end(fifo.depth, fifo.oldest, fifo.count)] = payload;
         fifo.count += 1;
     }
 }
 
+fn is_well<P: Places>(fifo: &Fifo) -> bool {
+    let depth = fifo.depth;
+    if depth < 2 || depth > MAX_DEPTH || depth & 1 == 1 {
+        return false;
+    }
+    if fifo.oldest >= depth || fifo.count > depth {
+        return false;
+    }
+    let mut at = fifo.oldest;
+    for _ in 0..fifo.count {
+        if fifo.slots[at].strb > 15 {
+            return false;
+        }
+        at = P::next(depth, at);
+    }
+    true
+}
+
+/// A step of a FIFO of any form, by value.
+#[inline(never)]
+pub fn step<P: Places>(
+    fifo: Fifo,
+    valid: bool,
+    payload: Payload,
+    sink: bool,
+    clear: bool,
+) -> Stepped<Fifo> {
+    let mut stepped = Stepped {
+        refusal: 0,
+        ready: false,
+        valid: false,
+        payload: Payload { data: 0, strb: 0 },
+        next: fifo,
+    };
+    if !is_well::<P>(&fifo) {
+        stepped.refusal = 6;
+    } else if payload.strb > 15 {
+        stepped.refusal = 2;
+    } else if clear {
+        stepped.next.count = 0;
+    } else {
+        stepped.ready = ready(&fifo);
+        if let Some(oldest) = oldest(&fifo) {
+            (stepped.valid, stepped.payload) = (true, oldest);
+        }
+        cycle::<P>(&mut stepped.next, valid.then_some(payload), sink);
+    }
+    stepped
+}
+
 /// A run of a chain that has its form over a legal trace, in place: from the outlet to the mouth in each cycle.
 #[inline(never)]
-pub fn run(chain: &mut Chain, offered: &Offered, out_control: &mut [u8], out_data: &mut [u32]) {
+pub fn run<P: Places>(
+    mut chain: Chain,
+    offered: &Offered,
+    out_control: &mut [u8],
+    out_data: &mut [u32],
+) -> Chain {
     let Offered {
         control,
         data,
@@ -108,10 +195,11 @@ pub fn run(chain: &mut Chain, offered: &Offered, out_control: &mut [u8], out_dat
                 (control[c] & 1 != 0).then_some(Payload { data, strb })
             };
             let was_ready = ready(&fifos[i]);
-            cycle(&mut fifos[i], offer, sink_ready);
+            cycle::<P>(&mut fifos[i], offer, sink_ready);
             sink_ready = was_ready;
         }
     }
+    chain
 }
 
 /// The addresses of as many iterations as are left, or as fit.
