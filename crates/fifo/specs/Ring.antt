@@ -1,4 +1,5 @@
--- Which value a `Fifo` stands for: its payloads lie in a ring of `depth` slots, from the position of the oldest on. Assumes nothing.
+-- Which value a `Fifo` stands for: its payloads lie in a ring of `depth` slots, from the position of the oldest on; and which slots
+-- these are. `proofs/Places.antt` and `proofs/Form.antt` prove `PlaceIsRemainder` and `EveryPlace`. Assumes nothing.
 use Prim.Native.Nat.{ℕ, zero, suc, _+_, _-_, _*_, _%_, _<_, _≤_}
 use mathlib.Core.Bool.{Bool, true, cond, _&&_}
 use mathlib.Core.List.{List, [], _∷_}
