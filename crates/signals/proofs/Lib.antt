@@ -1,5 +1,6 @@
 pub mod Any
 pub mod Bools
+pub mod Below
 pub mod Tables
 pub mod Judging
 pub mod Written

@@ -8,11 +8,12 @@ use mathlib.Core.Logic.{⊎-elim}
 use mathlib.Core.Path.{_≡_, refl, sym, _∙_}
 use lib.Dec.{eqb, ltb, leb}
 use borrow.Author.Tests.{lt-ltb, le-ltb, le-leb, eq-eqb, ne-eqb, eqb-true, eqb-false, ltb-true, ltb-false}
+use Rattle.signals.specs.Payloads.{strobed}
 use Rattle.signals.specs.Sequences.{entriesBelow}
 use Rattle.signals.proofs.Bools.{either}
 use Rattle.strbgen.specs.Plan.{wordCount, firstStrobe, lastStrobe, strobeAt, strobes}
-use Rattle.strbgen.specs.Bytes.{names, bytesIn, bytesNamed, ExactBytes}
-use Rattle.strbgen.proofs.Table.{first-and-last, first-names, last-names, full-names}
+use Rattle.strbgen.specs.Bytes.{bytesIn, bytesNamed, ExactBytes}
+use Rattle.strbgen.proofs.Table.{first-and-last, first-strobed, last-strobed, full-strobed}
 
 -- the bytes of a plan that has one more word
 one-more : (before : List ℕ) (strobe : ℕ) → bytesNamed (before ++ (strobe ∷ [])) ≡ bytesNamed before + bytesIn strobe
@@ -97,14 +98,14 @@ within-last m n j h g = rw (le-leb m (4 * n + j) (omega arith)) (⊎-elim below 
 module _ (m j : ℕ) (m-less : m < 4) (j-less : j < 4) where
   -- word i of w names the bytes within the packets
   abbrev Placed : ℕ → ℕ → ℕ → Type 0
-  Placed n w i = names (strobeAt m w i) j ≡ (leb m (4 * i + j) && ltb (4 * i + j) (m + 4 * n))
+  Placed n w i = strobed (strobeAt m w i) j ≡ (leb m (4 * i + j) && ltb (4 * i + j) (m + 4 * n))
 
   place-first : (n w : ℕ) → 0 < n → Placed n w 0
-  place-first n w h = first-names m j m-less j-less ∙ sym (within-first m n j j-less h)
+  place-first n w h = first-strobed m j m-less j-less ∙ sym (within-first m n j j-less h)
 
   place-between : (n w k : ℕ) → suc (suc k) < w → suc k < n → Placed n w (suc k)
   place-between n w k h g =
-      rw (between m w k h) (full-names j j-less ∙ sym (inside m n (suc k) j (omega arith) (omega arith)))
+      rw (between m w k h) (full-strobed j j-less ∙ sym (inside m n (suc k) j (omega arith) (omega arith)))
 
   place-aligned : (n i : ℕ) → i < n → eqb m 0 ≡ true → Placed n n i
   place-aligned n zero h e = place-first n n (omega arith)
@@ -114,7 +115,7 @@ module _ (m j : ℕ) (m-less : m < 4) (j-less : j < 4) where
       at-last t =
           let zero-m = eqb-true m 0 e in
           rw (last-word m n k (eqb-true (suc (suc k)) n t), inside m n (suc k) j (omega arith) (omega (arith, eqb-true (suc (suc k)) n t)))
-          (last-names m j m-less j-less ∙ simp e)
+          (last-strobed m j m-less j-less ∙ simp e)
 
       in-between : eqb (suc (suc k)) n ≡ false → Placed n n (suc k)
       in-between f = place-between n n k (not-last (eqb-false (suc (suc k)) n f)) h
@@ -130,7 +131,7 @@ module _ (m j : ℕ) (m-less : m < 4) (j-less : j < 4) where
       at-last t =
           let q : k ≡ p = eqb-true k p t in
           rw (q, last-word m (suc (suc p)) p refl, within-last m (suc p) j m-less (omega arith))
-          (last-names m j m-less j-less ∙ simp e)
+          (last-strobed m j m-less j-less ∙ simp e)
 
       in-between : eqb k p ≡ false → Placed (suc p) (suc (suc p)) (suc k)
       in-between f = let less = not-last (eqb-false k p f) in place-between (suc p) (suc (suc p)) k (omega arith) (omega arith)

@@ -1,19 +1,16 @@
 -- The bytes that strobes name. Assumes nothing.
-use Prim.Native.Nat.{ℕ, _+_, _*_, _/_, _%_, _^_, _<_}
-use mathlib.Core.Bool.{Bool, _&&_}
+use Prim.Native.Nat.{ℕ, _+_, _*_, _<_}
+use mathlib.Core.Bool.{_&&_}
 use mathlib.Core.List.{List, [], _∷_}
 use mathlib.Core.Path.{_≡_}
-use lib.Dec.{eqb, ltb, leb}
+use lib.Dec.{ltb, leb}
 use Rattle.signals.specs.Judging.{countBelow}
+use Rattle.signals.specs.Payloads.{strobed}
 use Rattle.strbgen.specs.Plan.{wordCount, strobeAt, strobes}
-
--- whether a strobe names byte j of its word: its bit j
-abbrev pub names : ℕ → ℕ → Bool
-names strobe j = eqb (strobe / 2 ^ j % 2) 1
 
 -- how many of a word's four bytes a strobe names
 unfoldable pub bytesIn : ℕ → ℕ
-bytesIn strobe = countBelow (names strobe) 4
+bytesIn strobe = countBelow (strobed strobe) 4
 
 -- how many bytes the strobes of a plan name
 abbrev pub bytesNamed : List ℕ → ℕ
@@ -26,4 +23,4 @@ pub record ExactBytes (m n : ℕ) : Type 0 where
   pub count : bytesNamed (strobes m (wordCount m n)) ≡ 4 * n
   pub place :
       (i j : ℕ) → i < wordCount m n → j < 4 →
-      names (strobeAt m (wordCount m n) i) j ≡ (leb m (4 * i + j) && ltb (4 * i + j) (m + 4 * n))
+      strobed (strobeAt m (wordCount m n) i) j ≡ (leb m (4 * i + j) && ltb (4 * i + j) (m + 4 * n))
