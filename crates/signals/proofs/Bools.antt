@@ -28,3 +28,9 @@ neither false b p = (refl, p)
 pub not-both : (b : Bool) → b ≡ true → b ≡ false → ⊥
 not-both true p q = false≢true (sym q)
 not-both false p q = false≢true p
+
+-- two tests of which each passes where the other does are the same
+pub passes-alike : (a b : Bool) → (a ≡ true → b ≡ true) → (b ≡ true → a ≡ true) → a ≡ b
+passes-alike true b p q = sym (p refl)
+passes-alike false true p q = q refl
+passes-alike false false p q = refl

@@ -2,3 +2,4 @@ pub mod Counters
 pub mod Follows
 pub mod Judged
 pub mod Meaning
+pub mod Strobes

@@ -1,10 +1,10 @@
--- Document 01, "Stream rules": what it means that a cycle of a stream breaks a rule. Assumes nothing.
+-- Document 01, "Stream rules", with request T-04: what it means that a cycle of a stream breaks a rule. Assumes nothing.
 use Prim.Native.Nat.{ℕ, zero, suc, _+_, _%_}
 use mathlib.Core.Bool.{Bool, false, cond, not, _&&_}
 use mathlib.Core.List.{List, [], _∷_}
 use mathlib.Core.Option.{Option, none, some}
 use lib.Dec.{eqb}
-use Rattle.signals.specs.Payloads.{samePayload}
+use Rattle.signals.specs.Payloads.{strobed, samePayload}
 use Rattle.signals.specs.Stream.{Sample, handshake}
 use Rattle.signals.specs.Tables.{Row, _⇐_}
 use Rattle.signals.specs.Written.{RuleName, number, seq}
@@ -36,9 +36,9 @@ counter s = s .payload .«data» % counters
 abbrev pub afterCounter : ℕ → ℕ
 afterCounter n = (n + 1) % counters
 
--- which cycles carry a counter: every handshake
+-- A handshake carries a counter only if the strobes of bytes 0 and 1 are both 1; others are skipped.
 abbrev pub carriesCounter : Sample → Bool
-carriesCounter s = handshake s
+carriesCounter s = handshake s && (strobed (s .payload .strb) 0 && strobed (s .payload .strb) 1)
 
 -- A trace is a sample for each cycle. The counter that was carried last before cycle c, if any was.
 abbrev pub lastCounter : (ℕ → Sample) → ℕ → Option ℕ
@@ -50,7 +50,7 @@ abbrev pub outOfSeq : Option ℕ → ℕ → Bool
 outOfSeq none n = false
 outOfSeq (some before) n = not (eqb n (afterCounter before))
 
--- Rule seq: each handshake after the first carries the previous handshake's counter plus one.
+-- Rule seq: each counter after the first is the last counter seen plus one, whatever was skipped between them.
 abbrev pub breaksSeq : (ℕ → Sample) → ℕ → Bool
 breaksSeq trace c = carriesCounter (trace c) && outOfSeq (lastCounter trace c) (counter (trace c))
 

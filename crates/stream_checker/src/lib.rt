@@ -1,6 +1,6 @@
 // The checker of HWPE-Stream traces: which cycle breaks a rule first, and which rule.
 //
-// Writes out "Stream rules" of document 01. It is document 01's judge of HWPE-Stream traces.
+// Writes out "Stream rules" of document 01, with request T-04. It is document 01's judge of HWPE-Stream traces.
 mod watch;
 
 ghost use mathlib.Core.Path.{_≡_};

@@ -36,11 +36,11 @@ fn handshake(control: u8) -> bool
     valid(control) & ready(control)
 }
 
-// Whether a cycle carries a counter: every handshake does.
+// Whether a cycle carries a counter: a handshake whose two lowest strobes, those of bytes 0 and 1, are both 1.
 fn carries_counter(control: u8) -> bool
     ensures { λ r. ⌜ r ≡ carriesCounter (sample control 0) ⌝ }
 {
-    handshake(control)
+    handshake(control) & (strb(control) % 4 == 3)
 }
 
 // Whether a cycle lays a duty on the next.

@@ -1,0 +1,18 @@
+-- `watch::carries_counter` meets its contract, by what `handshake` and `strb` ensure and the law of the two lowest strobes.
+-- Assumes nothing.
+use borrow.Author.Needs.{needs}
+use Rattle.stream_checker.proofs.Strobes.{low-strobes}
+use Rattle.stream_checker.proofs.watch.carries_counter.Statement.{statement}
+use Rattle.stream_checker.proofs.watch.carries_counter.Tie as tie
+
+handshake-requires : tie.Need-handshake-requires
+handshake-requires c κs = search needs
+
+strb-requires : tie.Need-strb-requires
+strb-requires c κs = search needs
+
+returns : tie.Need-returns
+returns c = simp (c .before .handshake .ensures, c .strb .ensures, low-strobes)
+
+pub carries-counter-spec : {M : Type 1} → statement M
+carries-counter-spec = tie.close (tie.spec handshake-requires strb-requires returns)
