@@ -1,5 +1,6 @@
--- Document 01, "Bench examples": P1 to P12 as one list of questions with the answers that document 01 gives to them, and one claim:
--- these are the definitions' answers. It is checked by computation. Assumes nothing.
+-- Document 01, "Bench examples": P1 to P12, and P4 and P5 with null bytes between as request T-04 asks, as one list of questions
+-- with the answers that the papers give to them, and one claim: these are the definitions' answers. It is checked by computation.
+-- Assumes nothing.
 use Prim.Native.Nat.{ℕ}
 use mathlib.Core.Bool.{Bool, true, false}
 use mathlib.Core.List.{List, [], _∷_, map}
@@ -54,7 +55,7 @@ answer (memory protocol cycles) =
     memAnswer (checkMem protocol (firsts cycles) (seconds cycles) (length cycles) (length cycles))
 answer (generator s n) = generatorAnswer s (ranOf s start n n .count)
 
--- a question with the answer that document 01 gives to it
+-- a question with the answer that the papers give to it
 pub record Example : Type 0 where
   pub question : Question
   pub expected : Answer
@@ -71,7 +72,7 @@ p9Settings mask =
 abbrev p12Settings : Settings
 p12Settings = record { base = 8; d0 = 0; d1 = 0; total = 4; s0 = 0xfffffffc; s1 = 0; s2 = 0; mask = 0 }
 
--- Where document 01 names no handshake count, it is the one of its rules. Each generator is asked for 8 addresses.
+-- Where the papers name no handshake count, it is the one of the rules. Each generator is asked for 8 addresses.
 abbrev pub examples : List Example
 examples =
     -- P1 empty stream trace: clean, 0
@@ -83,8 +84,12 @@ examples =
     ∷ stream false ((0xf1, 0x11) ∷ (0xf0, 0x12) ∷ []) gives isBroken (number 4) 1 0
     -- P4 counters 65535 then 0: clean
     ∷ stream true ((0xf3, 65535) ∷ (0xf3, 0) ∷ []) gives isClean 2 false
+    -- P4 with a handshake of strb 14 between: it is skipped, and counts
+    ∷ stream true ((0xf3, 65535) ∷ (0xe3, 5) ∷ (0xf3, 0) ∷ []) gives isClean 3 false
     -- P5 a counter twice running: seq at the second
     ∷ stream true ((0xf3, 7) ∷ (0xf3, 7) ∷ []) gives isBroken seq 1 1
+    -- P5 with a handshake of strb 14 between: seq at the second counter
+    ∷ stream true ((0xf3, 7) ∷ (0xe3, 9) ∷ (0xf3, 7) ∷ []) gives isBroken seq 2 2
     -- P6 read handshake, then r_valid 0: rule 2 at 1
     ∷ memory mem ((0xf7, 0) ∷ (0x00, 0) ∷ []) gives isBroken (number 2) 1 1
     -- P7 read handshake alone: clean, open
@@ -104,7 +109,7 @@ examples =
     ∷ generator p12Settings 8 gives yielded 4 (8 ∷ 4 ∷ 0 ∷ 0xfffffffc ∷ [])
     ∷ []
 
--- The claim: to every question the definitions give the answer that document 01 gives.
+-- The claim: to every question the definitions give the answer that the papers give.
 pub examples-hold : map (λ e. answer (e .question)) examples ≡ map (λ e. e .expected) examples
 unfolding checkStream checkMem
 examples-hold = refl
