@@ -20,7 +20,18 @@ fn refused(number: u8) -> StreamAnswer {
     }
 }
 
+/// A handshake carries a counter where the strobes of bytes 0 and 1 are both 1.
 pub fn check_stream(control: &[u8], data: &[u32], seq: bool) -> StreamAnswer {
+    check_stream_by(control, data, seq, |control| control & 0x30 == 0x30)
+}
+
+/// The same with another test, of its control byte, for whether a handshake carries a counter.
+pub fn check_stream_by(
+    control: &[u8],
+    data: &[u32],
+    seq: bool,
+    carries: impl Fn(u8) -> bool,
+) -> StreamAnswer {
     let n = control.len();
     if n != data.len() {
         return refused(1);
@@ -37,10 +48,12 @@ pub fn check_stream(control: &[u8], data: &[u32], seq: bool) -> StreamAnswer {
     let counter = |c: usize| data[c] as u16;
     let duty = |c: usize| valid(c - 1) && !ready(c - 1);
     let handshakes: Vec<usize> = (0..n).filter(|&c| valid(c) && ready(c)).collect();
+    let mut carriers = handshakes.clone();
+    carriers.retain(|&c| carries(control[c]));
 
     let rule_4 = (1..n).find(|&c| duty(c) && !valid(c));
     let rule_2 = (1..n).find(|&c| duty(c) && valid(c) && payload(c) != payload(c - 1));
-    let rule_seq = handshakes
+    let rule_seq = carriers
         .windows(2)
         .find(|pair| counter(pair[1]) != counter(pair[0]).wrapping_add(1))
         .map(|pair| pair[1])

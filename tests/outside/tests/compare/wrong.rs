@@ -18,6 +18,24 @@ fn the_switch_exchanged() {
 }
 
 #[test]
+fn other_handshakes_carry_a_counter() {
+    let wrong: [fn(u8) -> bool; 5] = [
+        |_| true,
+        |control| control & 0x10 != 0,
+        |control| control & 0x20 != 0,
+        |control| control & 0x30 != 0,
+        |control| control >> 4 == 15,
+    ];
+    for carries in wrong {
+        differs(|random| {
+            stream::compare(random, |control, data, seq| {
+                models::stream::check_stream_by(control, data, seq, carries)
+            })
+        });
+    }
+}
+
+#[test]
 fn one_protocol_for_the_other() {
     differs(|random| {
         memory::compare(

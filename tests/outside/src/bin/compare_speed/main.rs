@@ -75,8 +75,8 @@ fn stream(what: &str, (control, data): (&[u8], &[u32]), seq: bool, want: (u8, u8
 fn streams(random: &Random) {
     let clean = (CLEAN, 0, 0);
     let last = CYCLES - 1;
-    // A stream that is stalled before its last cycle, so that this one can break rule 4.
-    let (mut control, mut data) = std::iter::repeat_with(|| drawn_stream(random, CYCLES, 6, 5))
+    // A stream that is stalled before its last cycle, so that this one can break rule 4. Its strobes are of all sixteen values.
+    let (mut control, mut data) = std::iter::repeat_with(|| drawn_stream(random, CYCLES, 6, 5, 4))
         .find(|(control, _)| control[last - 1] & 3 == 1)
         .unwrap();
     stream("stream, random handshakes", (&control, &data), false, clean);
@@ -111,7 +111,7 @@ fn streams(random: &Random) {
 
 /// Offers, and a sink that is ready in two cycles of three.
 fn drawn_offers(random: &Random) -> Offered {
-    let (control, data) = drawn_stream(random, CYCLES, 6, 5);
+    let (control, data) = drawn_stream(random, CYCLES, 6, 5, 4);
     let sink = (0..CYCLES).map(|_| u8::from(!random.once_in(3))).collect();
     Offered {
         control,

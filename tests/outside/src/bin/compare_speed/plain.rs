@@ -46,11 +46,13 @@ pub fn check_stream(control: &[u8], data: &[u32], seq: bool) -> StreamAnswer {
             }
         }
         if valid && ready {
-            let counter = d as u16;
-            if seq && last.is_some_and(|last| counter != last.wrapping_add(1)) {
-                return answer(BROKEN, SEQ, cycle, handshakes);
+            if c & 0x30 == 0x30 {
+                let counter = d as u16;
+                if seq && last.is_some_and(|last| counter != last.wrapping_add(1)) {
+                    return answer(BROKEN, SEQ, cycle, handshakes);
+                }
+                last = Some(counter);
             }
-            last = Some(counter);
             handshakes += 1;
         }
         stalled = (valid && !ready).then_some((c >> 4, d));
