@@ -1,8 +1,8 @@
 #!/usr/bin/env python3
 """Makes the vectors of crates/vectors whose names begin with `edge_`: bench texts, each with its report.
 
-The reports come from a plain model of document 01 ("Stream rules" and "Bench text"), which shares nothing with the proved code
-or its definitions. The model is first held against every other vector in the folder, which were made elsewhere.
+The reports come from a plain model of document 01 ("Stream rules", as request T-04 has them, and "Bench text"), which shares
+nothing with the proved code or its definitions. The model is first held against every other vector in the folder, which were made elsewhere.
 Writes data/edge_*.in, data/edge_*.out, args and stdout in crates/vectors. Takes no arguments.
 """
 
@@ -22,17 +22,22 @@ HEADER = re.compile(rb"kind=stream\nseq=(on|off)\ncycles=(0|[1-9][0-9]{0,4})\n")
 LINE = re.compile(rb"c=([0-9a-f]{2})([0-9a-f]{8})\n")
 
 
+def carries(control):
+    """A handshake with the strobes of bytes 0 and 1 both 1."""
+    return control & 0x33 == 0x33
+
+
 def breach(trace, counter, seq, c):
-    """The first rule, in the order 4, 2, seq, that cycle c breaks; counter is that of the last handshake, or None."""
+    """The first rule, in the order 4, 2, seq, that cycle c breaks; counter is the last one seen, or None."""
     control, data = trace[c]
-    valid, handshake = control & 1, control & 3 == 3
+    valid = control & 1
     if c > 0 and trace[c - 1][0] & 3 == 1:
         before, word = trace[c - 1]
         if not valid:
             return "4"
         if word != data or before >> 4 != control >> 4:
             return "2"
-    if seq and handshake and counter is not None and data & 0xFFFF != (counter + 1) & 0xFFFF:
+    if seq and carries(control) and counter is not None and data & 0xFFFF != (counter + 1) & 0xFFFF:
         return "seq"
     return None
 
@@ -44,7 +49,9 @@ def judged(trace, seq):
         if rule is not None:
             return REPORT.format(len(trace), "broken", rule, c, handshakes)
         if control & 3 == 3:
-            handshakes, counter = handshakes + 1, data & 0xFFFF
+            handshakes += 1
+        if carries(control):
+            counter = data & 0xFFFF
     return REPORT.format(len(trace), "clean", 0, 0, handshakes)
 
 
@@ -84,18 +91,28 @@ def handshakes(*counters):
     return [(0xF3, counter) for counter in counters]
 
 
+def skipped(*words):
+    """Handshakes that carry no counter, of the twelve strobes in turn."""
+    strobes = [strb for strb in range(16) if strb % 4 != 3]
+    return [(strobes[i % 12] << 4 | 3, word) for i, word in enumerate(words)]
+
+
 def random_clean(cycles, rng):
-    """A clean trace with stalls, whose counters follow one another."""
+    """A clean trace with stalls, whose counters follow one another; three payloads in four carry none."""
     trace, counter, stalled = [], 0xFF00, None
     while len(trace) < cycles:
         ready = rng.randrange(2)
         if stalled is None and rng.randrange(3) == 0:
             trace.append((rng.randrange(16) << 4 | ready << 1, rng.getrandbits(32)))
             continue
-        strb, data = stalled or (rng.randrange(16), rng.getrandbits(16) << 16 | counter)
+        if stalled is None:
+            strb, data = rng.randrange(16), rng.getrandbits(32)
+            stalled = (strb, data & 0xFFFF0000 | counter if strb % 4 == 3 else data)
+        strb, data = stalled
         trace.append((strb << 4 | ready << 1 | 1, data))
-        stalled = None if ready else (strb, data)
-        counter = (counter + 1) % 65536 if ready else counter
+        if ready:
+            stalled = None
+            counter = (counter + (strb % 4 == 3)) % 65536
     return trace
 
 
@@ -189,6 +206,14 @@ def verdicts():
     yield "seq_first_is_free", text([(0x02, 0), (0xF0, 9)] + handshakes(0x8000, 0x8001), seq="on")
     yield "seq_not_under_valid_0", text([(0xF3, 5), (0xF2, 9), (0xF0, 9), (0xF3, 6)], seq="on")
     yield "seq_when_a_stall_ends", text([(0xF3, 5), (0xF1, 9), (0xF1, 9), (0xF3, 9)], seq="on")
+    yield "seq_skipped_unread", text(handshakes(5) + skipped(*range(12)) + handshakes(6), seq="on")
+    yield "seq_first_after_skipped", text(skipped(5, 5, 9) + handshakes(0x8000, 0x8001), seq="on")
+    yield "seq_wrap_over_skipped", text(handshakes(0xFFFF) + skipped(1, 0, 7) + handshakes(0, 1), seq="on")
+    yield "seq_back_over_skipped", text(handshakes(5, 6) + skipped(7) + handshakes(6), seq="on")
+    yield "seq_none_but_skipped", text(skipped(*[7] * 24), seq="on")
+    yield "seq_under_strb_3_7_11", text([(0x33, 5), (0x73, 6), (0xB3, 7), (0x33, 9)], seq="on")
+    yield "seq_last_word_counts", text(handshakes(5) + [(0x73, 5)], seq="on")
+    yield "rule_4_null_bytes", text([(0xF3, 5), (0xC1, 9), (0xC2, 9)], seq="on")
     yield "every_control_without_stall", text([(control, 7) for control in range(256) if control & 12 == 0 and control & 3 != 1])
     yield "reserved_bit_2", text([(0x04, 0)])
     yield "reserved_both_bits", text([(0xFF, 0)])
@@ -203,6 +228,8 @@ def longest():
     stalls = random_clean(4096, rng)
     yield "full_always", text(always, seq="on")
     yield "full_random", text(stalls, seq="on")
+    yield "full_skipped_between", text(handshakes(0xFFFF) + skipped(*range(4094)) + handshakes(0), seq="on")
+    yield "full_seq_over_skipped", text(handshakes(7) + skipped(*range(4094)) + handshakes(7), seq="on")
     yield "full_rule_2_last", text(always[:4094] + [(0xF1, 5), (0xF3, 6)])
     yield "full_rule_4_last", text(always[:4094] + [(0x11, 5), (0x12, 5)])
     yield "full_seq_last", text(always[:4095] + always[:1], seq="on")
