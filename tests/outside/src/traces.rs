@@ -22,13 +22,13 @@ pub fn drawn(random: &Random, bias: usize) -> bool {
     random.below(8) < bias
 }
 
-/// A strb: with bytes 0 and 1 strobed, as under a counter, or with one of them or neither; bytes 2 and 3 are as they come.
+/// A strb with bytes 0 and 1 both strobed, or not both; bytes 2 and 3 are as they come.
 fn strobes(random: &Random, counted: bool) -> u8 {
     let low = if counted { 3 } else { random.below(3) };
     (random.below(4) << 2 | low) as u8
 }
 
-/// A clean stream. Under a counter are all of its payloads, some, the share of four strobes of sixteen, or few and far between.
+/// A clean stream. A counter is in all of its payloads, in half, in a quarter (all strobes are as likely then), or in few.
 pub fn clean_stream(random: &Random, cycles: usize) -> (Vec<u8>, Vec<u32>) {
     let each = random.pick(&[1, 2, 4, 4, 300]);
     drawn_stream(random, cycles, bias(random), bias(random), each)
@@ -43,28 +43,24 @@ pub fn drawn_stream(
     each: usize,
 ) -> (Vec<u8>, Vec<u32>) {
     let mut counter = random.pick(&[0, 1, 65_533, random.word() as u16]);
-    let mut waiting: Option<(bool, u8, u32)> = None;
+    let mut waiting: Option<(u8, u32)> = None;
     let (mut control, mut data) = (Vec::new(), Vec::new());
     for _ in 0..cycles {
         let offered = drawn(random, valids);
         let ready = drawn(random, readies);
         let valid = offered || waiting.is_some();
-        let (counted, strb, word) = waiting.take().unwrap_or_else(|| {
+        let (strb, word) = waiting.take().unwrap_or_else(|| {
             let counted = random.once_in(each);
-            let low = if counted {
-                counter
-            } else {
-                random.word() as u16
-            };
+            let low = [random.word() as u16, counter][usize::from(counted)];
             let word = random.word() & 0xffff_0000 | u32::from(low);
-            (counted, strobes(random, counted), word)
+            (strobes(random, counted), word)
         });
         control.push(strb << 4 | u8::from(ready) << 1 | u8::from(valid));
         data.push(if valid { word } else { random.word() });
         if valid && ready {
-            counter = counter.wrapping_add(u16::from(counted));
+            counter = counter.wrapping_add(u16::from(strb & 3 == 3));
         } else if valid {
-            waiting = Some((counted, strb, word));
+            waiting = Some((strb, word));
         }
     }
     (control, data)
