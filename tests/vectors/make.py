@@ -1,9 +1,9 @@
 #!/usr/bin/env python3
 """Makes the vectors of crates/vectors whose names begin with `edge_`: bench texts, each with its report.
 
-The reports come from a plain model of document 01 ("Stream rules", as request T-04 has them, and "Bench text"), which shares
-nothing with the proved code or its definitions. The model is first held against every other vector in the folder, which were made elsewhere.
-Writes data/edge_*.in, data/edge_*.out, args and stdout in crates/vectors. Takes no arguments.
+The reports come from a plain model of document 01 ("Stream rules", with request T-04, and "Bench text"), which shares nothing
+with the proved code or its definitions. The model is first held against every other vector in the folder, which were made
+elsewhere. Writes data/edge_*.in, data/edge_*.out, args and stdout in crates/vectors. Takes no arguments.
 """
 
 import pathlib

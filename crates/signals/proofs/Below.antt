@@ -2,9 +2,9 @@
 -- Assumes nothing.
 use Prim.Native.Nat.{ℕ, zero, suc, _<_}
 use native.Mathlib.Omega.{arith}
-use mathlib.Core.Bool.{Bool, true, false, _&&_, Bool·beq, false≢true}
+use mathlib.Core.Bool.{Bool, true, _&&_}
 use mathlib.Core.Logic.{⊎-elim}
-use mathlib.Core.Path.{_≡_, refl}
+use mathlib.Core.Path.{_≡_}
 use lib.Dec.{ltb}
 use borrow.Author.Tests.{ltb-true, ltb-false}
 use Rattle.signals.proofs.Bools.{either, both}
@@ -22,10 +22,3 @@ each-below test (suc n) e k h =
   where
     last : k ≡ n → test n ≡ true → test k ≡ true
     last q p = rw q p
-
--- two tests that compare as equal
-pub same : (a b : Bool) → Bool·beq a b ≡ true → a ≡ b
-same true true e = refl
-same true false e = absurd (false≢true e)
-same false true e = absurd (false≢true e)
-same false false e = refl

@@ -2,7 +2,7 @@
 use Prim.Native.Nat.{ℕ}
 use native.Mathlib.Omega.{arith}
 use mathlib.Core.Path.{_≡_, refl, sym}
-use mathlib.Core.Bool.{Bool, true, false, _&&_, _||_, false≢true}
+use mathlib.Core.Bool.{Bool, true, false, _&&_, _||_, Bool·beq, false≢true}
 use mathlib.Core.Logic.{_⊎_, inl, inr}
 
 -- 0 is not 1; where two constructors meet `cc` finds that it would be
@@ -28,6 +28,13 @@ neither false b p = (refl, p)
 pub not-both : (b : Bool) → b ≡ true → b ≡ false → ⊥
 not-both true p q = false≢true (sym q)
 not-both false p q = false≢true p
+
+-- two tests that compare as equal are the same
+pub beq-true : (a b : Bool) → Bool·beq a b ≡ true → a ≡ b
+beq-true true true e = refl
+beq-true true false e = absurd (false≢true e)
+beq-true false true e = absurd (false≢true e)
+beq-true false false e = refl
 
 -- two tests of which each passes where the other does are the same
 pub passes-alike : (a b : Bool) → (a ≡ true → b ≡ true) → (b ≡ true → a ≡ true) → a ≡ b

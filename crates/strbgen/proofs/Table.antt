@@ -6,7 +6,8 @@ use mathlib.Core.Path.{_≡_, refl}
 use lib.Dec.{eqb, ltb, leb}
 use borrow.Author.Tests.{eqb-true}
 use Rattle.signals.specs.Payloads.{strobed}
-use Rattle.signals.proofs.Below.{everyBelow, each-below, same}
+use Rattle.signals.proofs.Below.{everyBelow, each-below}
+use Rattle.signals.proofs.Bools.{beq-true}
 use Rattle.strbgen.specs.Plan.{firstStrobe, lastStrobe}
 use Rattle.strbgen.specs.Bytes.{bytesIn}
 
@@ -19,12 +20,12 @@ over-table test e m j m-less j-less =
 
 pub first-strobed : (m j : ℕ) → m < 4 → j < 4 → strobed (firstStrobe m) j ≡ leb m j
 first-strobed m j m-less j-less =
-    same (strobed (firstStrobe m) j) (leb m j)
+    beq-true (strobed (firstStrobe m) j) (leb m j)
     (over-table (λ k b. Bool·beq (strobed (firstStrobe k) b) (leb k b)) refl m j m-less j-less)
 
 pub last-strobed : (m j : ℕ) → m < 4 → j < 4 → strobed (lastStrobe m) j ≡ (eqb m 0 || ltb j m)
 last-strobed m j m-less j-less =
-    same (strobed (lastStrobe m) j) (eqb m 0 || ltb j m)
+    beq-true (strobed (lastStrobe m) j) (eqb m 0 || ltb j m)
     (over-table (λ k b. Bool·beq (strobed (lastStrobe k) b) (eqb k 0 || ltb b k)) refl m j m-less j-less)
 
 -- a word that is neither first nor last is full

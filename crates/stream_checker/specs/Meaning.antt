@@ -1,5 +1,6 @@
--- Document 01, "Stream rules", with request T-04: what the answer of `check_stream` means, cycle by cycle, which strobes go with a counter, and rule
--- seq by index. `proofs/Meaning.antt`, `proofs/Strobes.antt` and `proofs/Counters.antt` have the proofs. Assumes nothing.
+-- Document 01, "Stream rules", with request T-04: what the answer of `check_stream` means, cycle by cycle, which strobes go with a
+-- counter, and rule seq by index. `proofs/Meaning.antt`, `proofs/Strobes.antt` and `proofs/Counters.antt` have the proofs.
+-- Assumes nothing.
 use Prim.Native.Nat.{ℕ, _<_}
 use mathlib.Core.Bool.{Bool, true, false, _&&_}
 use mathlib.Core.List.{List, [], _∷_}
@@ -27,7 +28,9 @@ carryingStrobes = 3 ∷ 7 ∷ 11 ∷ 15 ∷ []
 
 -- a cycle carries a counter exactly where it is a handshake under one of these
 abbrev pub CounterByStrobe : Type 0
-CounterByStrobe = (s : Sample) → legalStrb (s .payload) ≡ true → carriesCounter s ≡ (handshake s && anyOf (eqb (s .payload .strb)) carryingStrobes)
+CounterByStrobe =
+    (s : Sample) → legalStrb (s .payload) ≡ true →
+    carriesCounter s ≡ (handshake s && anyOf (eqb (s .payload .strb)) carryingStrobes)
 
 -- cycle b is the last before cycle c that carries a counter
 pub record LastCarrier (trace : ℕ → Sample) (c b : ℕ) : Type 0 where

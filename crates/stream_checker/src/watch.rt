@@ -1,7 +1,8 @@
 // What the checker keeps of the cycles that it has seen, and its step over one more.
+ghost use mathlib.Core.Bool.{_&&_};
 ghost use mathlib.Core.Path.{_≡_};
 ghost use Prim.Native.Nat.{_+_, _<_, _^_};
-ghost use Rattle.signals.specs.Payloads.{samePayload};
+ghost use Rattle.signals.specs.Payloads.{strobed, samePayload};
 ghost use Rattle.signals.specs.Stream.{sample, handshake};
 ghost use Rattle.stream_checker.specs.Rules.{stalled, carriesCounter, counter, afterCounter};
 ghost use Rattle.signals.specs.Tables.{firstOf};
@@ -36,11 +37,18 @@ fn handshake(control: u8) -> bool
     valid(control) & ready(control)
 }
 
-// Whether a cycle carries a counter: a handshake whose two lowest strobes, those of bytes 0 and 1, are both 1.
+// Whether bytes 0 and 1 of a word, which hold its counter, are both strobed.
+fn counter_strobed(strb: u8) -> bool
+    ensures { λ r. ⌜ r ≡ (strobed strb 0 && strobed strb 1) ⌝ }
+{
+    strb % 4 == 3
+}
+
+// Whether a cycle carries a counter.
 fn carries_counter(control: u8) -> bool
     ensures { λ r. ⌜ r ≡ carriesCounter (sample control 0) ⌝ }
 {
-    handshake(control) & (strb(control) % 4 == 3)
+    handshake(control) & counter_strobed(strb(control))
 }
 
 // Whether a cycle lays a duty on the next.

@@ -1,7 +1,5 @@
--- `watch::carries_counter` meets its contract, by what `handshake` and `strb` ensure and the law of the two lowest strobes.
--- Assumes nothing.
+-- `watch::carries_counter` meets its contract, by what `handshake`, `strb` and `counter_strobed` ensure. Assumes nothing.
 use borrow.Author.Needs.{needs}
-use Rattle.stream_checker.proofs.Strobes.{low-strobes}
 use Rattle.stream_checker.proofs.watch.carries_counter.Statement.{statement}
 use Rattle.stream_checker.proofs.watch.carries_counter.Tie as tie
 
@@ -11,8 +9,11 @@ handshake-requires c κs = search needs
 strb-requires : tie.Need-strb-requires
 strb-requires c κs = search needs
 
+counter-strobed-requires : tie.Need-counter-strobed-requires
+counter-strobed-requires c κs = search needs
+
 returns : tie.Need-returns
-returns c = simp (c .before .handshake .ensures, c .strb .ensures, low-strobes)
+returns c = simp (c .before .before .handshake .ensures, c .before .strb .ensures, c .counter-strobed .ensures)
 
 pub carries-counter-spec : {M : Type 1} → statement M
-carries-counter-spec = tie.close (tie.spec handshake-requires strb-requires returns)
+carries-counter-spec = tie.close (tie.spec handshake-requires strb-requires counter-strobed-requires returns)
