@@ -1,20 +1,14 @@
--- The numbers that stand for enums, and what it means that an answer is given in numbers. Assumes nothing.
+-- The numbers that stand for outcomes and verdicts, and what it means that an answer is given in numbers. Assumes nothing.
 use Prim.Native.Nat.{ℕ}
 use mathlib.Core.Option.{Option, none, some}
 use mathlib.Core.Path.{_≡_}
-use Rattle.signals.specs.Judging.{clean, broken}
-use Rattle.signals.specs.Written.{RuleName, number, seq, align, Written, judged, refused}
+use Rattle.signals.specs.Numbers.{InThree, inThree}
+use Rattle.signals.specs.Written.{Written, judged, refused}
 
 -- the number of a refusal, 0 where there is none
 abbrev pub orZero : (refusal : Option ℕ) → ℕ
 orZero none = 0
 orZero (some n) = n
-
--- the two rules that have only a name lie far above every number of document 01
-abbrev pub ruleNumber : RuleName → ℕ
-ruleNumber (number n) = n
-ruleNumber seq = 100
-ruleNumber align = 101
 
 -- A verdict in four numbers: the refusal; 0 for none, 1 for clean, 2 for broken; and rule and cycle, 0 unless it is broken.
 pub record InFour : Type 0 where
@@ -25,8 +19,9 @@ pub record InFour : Type 0 where
 
 abbrev pub inFour : Written → InFour
 inFour (refused n) = record { refusal = n; verdict = 0; rule = 0; cycle = 0 }
-inFour (judged clean) = record { refusal = 0; verdict = 1; rule = 0; cycle = 0 }
-inFour (judged (broken rule c)) = record { refusal = 0; verdict = 2; rule = ruleNumber rule; cycle = c }
+inFour (judged found) =
+    let three : InThree = inThree found in
+    record { refusal = 0; verdict = three .verdict; rule = three .rule; cycle = three .cycle }
 
 -- r gives an answer that is as promised, in numbers
 pub record InNumbers {A B : Type 0} (Promised : A → Type 0) (numbers : A → B) (r : B) : Type 0 where

@@ -6,20 +6,12 @@ ghost use Rattle.mem_checker.specs.Rules.{mem, memDecoupled};
 ghost use Rattle.mem_checker.specs.Verdicts.{checkMem};
 ghost use Rattle.stream_checker.specs.Written as writtenStream;
 ghost use Rattle.mem_checker.specs.Written as writtenMem;
-ghost use Rattle.exports.specs.Numbers.{ruleNumber};
+ghost use Rattle.signals.specs.Numbers.{ruleNumber};
 ghost use Rattle.exports.specs.Verdicts.{streamNumbers, memNumbers};
-
-// The verdicts' numbers: 0 is none, for a trace that is refused.
-const NONE: u8 = 0;
-
-const CLEAN: u8 = 1;
-
-const BROKEN: u8 = 2;
-
-// The numbers of rules seq and align.
-const SEQ: u8 = 100;
-
-const ALIGN: u8 = 101;
+use signals::ALIGN;
+use signals::BROKEN;
+use signals::CLEAN;
+use signals::NONE;
 
 // A verdict on a stream's trace. Rule and cycle are 0 unless it is broken.
 #[repr(C)]
@@ -40,16 +32,6 @@ pub struct MemVerdict {
     pub cycle: u32,
     pub handshakes: u32,
     pub open: bool,
-}
-
-fn stream_rule(rule: stream_checker::Rule) -> u8
-    ensures { λ r. ⌜ r ≡ ruleNumber (writtenStream.ruleName rule) ⌝ }
-{
-    match rule {
-        stream_checker::Rule::Held => 4,
-        stream_checker::Rule::Stable => 2,
-        stream_checker::Rule::Seq => SEQ,
-    }
 }
 
 fn mem_rule(rule: mem_checker::Rule) -> u8
@@ -77,7 +59,7 @@ fn stream_numbers(checked: stream_checker::Checked) -> StreamVerdict
         stream_checker::Verdict::Broken(rule, cycle) => StreamVerdict {
             refusal: 0,
             verdict: BROKEN,
-            rule: stream_rule(rule),
+            rule: rule.number(),
             cycle,
             handshakes: checked.handshakes,
         },

@@ -7,3 +7,4 @@ pub mod Stream
 pub mod Memory
 pub mod Judging
 pub mod Written
+pub mod Numbers

@@ -14,6 +14,18 @@ pub const MAX_CYCLES: usize = 65536;
 // The largest strobe of a 32-bit word: a bit for each byte.
 pub const MAX_STRB: u8 = 15;
 
+// The verdicts' numbers: 0 is none, for a trace that is refused.
+pub const NONE: u8 = 0;
+
+pub const CLEAN: u8 = 1;
+
+pub const BROKEN: u8 = 2;
+
+// The numbers of rules seq and align, which have none in document 01.
+pub const SEQ: u8 = 100;
+
+pub const ALIGN: u8 = 101;
+
 // The two limits as values; each is the definitions' limit.
 pub fn max_cycles() -> usize
     ensures { λ r. ⌜ r ≡ maxCycles ⌝ }

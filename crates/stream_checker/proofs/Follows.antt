@@ -1,18 +1,15 @@
 -- A watch follows a trace: what it keeps is what the rules ask of the cycles before, so it finds what they find.
 -- Each cycle by one step of the watch; the counters by the last one carried. Assumes nothing.
-use Prim.Native.Nat.{ℕ, zero, suc, _+_, _≤_}
-use native.Mathlib.Numerals.{add-one}
+use Prim.Native.Nat.{ℕ, zero, suc}
 use mathlib.Core.Bool.{Bool, true, false, cond, not, _&&_}
+use mathlib.Core.List.{List}
 use mathlib.Core.Option.{Option, none, some}
 use mathlib.Core.Path.{_≡_, refl, _∙_, ap}
 use lib.Dec.{eqb}
-use Rattle.signals.specs.Judging.{countBelow}
-use Rattle.signals.specs.Stream.{Sample, sample}
-use Rattle.signals.proofs.Judging.{count-le}
+use Rattle.signals.specs.Stream.{Sample, sample, sampleAt}
 use Rattle.stream_checker.specs.declared.watch.Watch.{Watch}
 use Rattle.stream_checker.specs.Rules.{stalled, breaksHeld, breaksStable, between, counter, afterCounter, carriesCounter, lastCounter, outOfSeq, breaksSeq, inOrder, rules}
-use Rattle.stream_checker.specs.Verdicts.{handshakeAt}
-use Rattle.stream_checker.specs.Step.{start, before, breaksSeqAfter, rulesAfter, next}
+use Rattle.stream_checker.specs.Step.{start, before, breaksSeqAfter, rulesAfter, next, watchAfter, rulesFrom}
 
 -- s is the cycle before cycle i; before the first, one that is not stalled
 abbrev Previous : (ℕ → Sample) → ℕ → Sample → Type 0
@@ -27,7 +24,6 @@ Counted (some n) counted due = (counted ≡ true) × (due ≡ afterCounter n)
 pub record Follows (trace : ℕ → Sample) (i : ℕ) (w : Watch) : Type 0 where
   pub previous : Previous trace i (before w)
   pub counters : Counted (lastCounter trace i) (w .counted) (w .due)
-  pub shaken : w .handshakes ≡ countBelow (handshakeAt trace) i
 
 counted-next : (b : Bool) (n : ℕ) (last : Option ℕ) (counted : Bool) (due : ℕ) → Counted last counted due → Counted (cond b (some n) last) (cond b true counted) (cond b (afterCounter n) due)
 counted-next true n last counted due h = (refl, refl)
@@ -39,16 +35,14 @@ counted-seq (some m) counted due n h = rw (h .0, h .1)
 
 module _ (trace : ℕ → Sample) where
   pub follows-start : Follows trace 0 start
-  follows-start = record { previous = refl; counters = refl; shaken = refl }
+  follows-start = record { previous = refl; counters = refl }
 
-  pub follows-next : (i : ℕ) (w : Watch) (control word : ℕ) → trace i ≡ sample control word → Follows trace i w → Follows trace (i + 1) (next w control word)
+  pub follows-next : (i : ℕ) (w : Watch) (control word : ℕ) → trace i ≡ sample control word → Follows trace i w → Follows trace (suc i) (next w control word)
   follows-next i w control word e f =
-      rw (add-one i)
-      (record {
+      record {
         previous = rw e;
         counters = rw e (counted-next (carriesCounter (sample control word)) _ (lastCounter trace i) (w .counted) (w .due) (f .counters));
-        shaken = rw (e, f .shaken);
-      })
+      }
 
   between-same :
       (breaks : (before now : Sample) → Bool) → ((s now : Sample) → stalled s ≡ false → breaks s now ≡ false) →
@@ -69,6 +63,11 @@ module _ (trace : ℕ → Sample) where
       ∙ ap (λ (b : Bool). inOrder seqOn (between breaksHeld trace i) b (breaksSeqAfter w (trace i))) stable
       ∙ ap (λ (b : Bool). inOrder seqOn (between breaksHeld trace i) (between breaksStable trace i) b) sequence
 
-  -- a cycle has at most one handshake
-  pub follows-le : (i : ℕ) (w : Watch) → Follows trace i w → w .handshakes ≤ i
-  follows-le i w f = rw (f .shaken) (count-le (handshakeAt trace) i)
+module _ (controls words : List ℕ) where
+  -- from the start on the watch follows the trace, through every cycle
+  follows : (n : ℕ) → Follows (sampleAt controls words) n (watchAfter start controls words n)
+  follows zero = follows-start _
+  follows (suc n) = follows-next _ n (watchAfter start controls words n) _ _ refl (follows n)
+
+  pub rules-from-start : (seqOn : Bool) (c : ℕ) → rulesFrom start controls words seqOn c ≡ rules seqOn (sampleAt controls words) c
+  rules-from-start seqOn c = rules-same _ c (watchAfter start controls words c) seqOn (follows c)

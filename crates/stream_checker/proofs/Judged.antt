@@ -1,29 +1,121 @@
--- What the loop answers: at its first breach, and at the end, the watch that follows the trace has the verdict and the count.
+-- What the loop answers: at its first breach, and at its end, the sight of all the cycles; and from the start on, the verdict of the trace.
 -- Assumes nothing.
-use Prim.Native.Nat.{ℕ, _+_, _<_}
-use mathlib.Core.Bool.{Bool}
-use mathlib.Core.Option.{none, some}
-use mathlib.Core.Path.{_≡_, sym, _∙_, ap}
-use Rattle.signals.specs.Judging.{clean, broken, findingBelow}
-use Rattle.signals.specs.Stream.{Sample}
-use Rattle.signals.specs.Tables.{firstOf}
+use Prim.Native.Nat.{ℕ, zero, suc, _+_, _<_, _≤_, min}
+use native.Mathlib.Omega.{arith}
+use native.Mathlib.Numerals.{add-one}
+use mathlib.Core.Bool.{Bool, cond}
+use mathlib.Core.List.{List}
+use mathlib.Core.Option.{Option, none, some}
+use mathlib.Core.Path.{_≡_, refl, sym, _∙_, ap}
+use lib.ListN.{length, getD}
+use Rattle.signals.specs.Judging.{Finding, clean, broken, found, countBelow, findingBelow, cyclesCounted}
+use Rattle.signals.specs.Stream.{sampleAt}
+use Rattle.signals.specs.Tables.{Row, firstOf}
 use Rattle.signals.specs.Written.{RuleName, judged, Judgement}
-use Rattle.signals.proofs.Judging.{stops, goes-on}
+use Rattle.signals.proofs.Judging.{judges, stops, goes-on, count-le}
+use Rattle.stream_checker.specs.declared.Found.{Found}
+use Rattle.stream_checker.specs.declared.Found.the-variants.{First}
+use Rattle.stream_checker.specs.declared.Rule.{Rule}
+use Rattle.stream_checker.specs.declared.Seen.{Seen}
 use Rattle.stream_checker.specs.declared.watch.Watch.{Watch}
 use Rattle.stream_checker.specs.Rules.{rules}
-use Rattle.stream_checker.specs.Verdicts.{judgedBelow}
-use Rattle.stream_checker.specs.Step.{rulesAfter}
-use Rattle.stream_checker.proofs.Follows.{Follows, rules-same}
+use Rattle.stream_checker.specs.Verdicts.{handshakeAt, judgedBelow}
+use Rattle.stream_checker.specs.Step.{start, rulesAfter, next, watchAfter, rulesFrom, Sight, sightBelow, findingOf, sightOf}
+use Rattle.stream_checker.specs.Step.Sight.{finding, handshakes}
+use Rattle.stream_checker.specs.Written.{ruleName}
+use Rattle.stream_checker.proofs.Follows.{rules-from-start}
 
-module _ (seqOn : Bool) (trace : ℕ → Sample) (i : ℕ) (w : Watch) (so-far : findingBelow (rules seqOn trace) i ≡ clean) (f : Follows trace i w) where
-  pub judged-stops :
-      (n : ℕ) (r : RuleName) → i < n → some r ≡ firstOf (rulesAfter w (trace i) seqOn) →
-      _≡_ {A = Judgement} (record { verdict = judged (broken r i); handshakes = w .handshakes }) (judgedBelow seqOn trace n)
-  judged-stops n r h e =
-      rw (stops (rules seqOn trace) i n r h so-far (sym (e ∙ ap firstOf (rules-same trace i w seqOn f))), f .shaken)
+-- nothing is found in the cycles below i, and count and watch are those after them
+pub record SoFar (w : Watch) (controls words : List ℕ) (seqOn : Bool) (i handshakes : ℕ) (after : Watch) : Type 0 where
+  pub nothing : findingBelow (rulesFrom w controls words seqOn) i ≡ clean
+  pub counted : handshakes ≡ countBelow (handshakeAt (sampleAt controls words)) i
+  pub watched : after ≡ watchAfter w controls words i
 
-  pub judged-goes : none ≡ firstOf (rulesAfter w (trace i) seqOn) → findingBelow (rules seqOn trace) (i + 1) ≡ clean
-  judged-goes e = goes-on (rules seqOn trace) i so-far (sym (e ∙ ap firstOf (rules-same trace i w seqOn f)))
+module _ (w : Watch) (controls words : List ℕ) (seqOn : Bool) where
+  pub so-far-start : SoFar w controls words seqOn 0 0 w
+  so-far-start = record { nothing = refl; counted = refl; watched = refl }
 
-  pub judged-ends : (n : ℕ) → i ≡ n → _≡_ {A = Judgement} (record { verdict = judged clean; handshakes = w .handshakes }) (judgedBelow seqOn trace n)
-  judged-ends n e = rw (← e, so-far, f .shaken)
+  module _ (i handshakes : ℕ) (after : Watch) (so-far : SoFar w controls words seqOn i handshakes after) where
+    -- what the watch finds in cycle i is what the rules say
+    found-there : (r : Option RuleName) → r ≡ firstOf (rulesAfter after (sampleAt controls words i) seqOn) → firstOf (rulesFrom w controls words seqOn i) ≡ r
+    found-there r e = sym (e ∙ ap (λ (v : Watch). firstOf (rulesAfter v (sampleAt controls words i) seqOn)) (so-far .watched))
+
+    pub sight-stops :
+        (n : ℕ) (r : RuleName) → i < n → some r ≡ firstOf (rulesAfter after (sampleAt controls words i) seqOn) →
+        _≡_ {A = Sight} (record { finding = broken r i; handshakes = handshakes; watch = after }) (sightBelow w controls words seqOn n)
+    sight-stops n r h e =
+        rw (stops (rulesFrom w controls words seqOn) i n r h (so-far .nothing) (found-there (some r) e), so-far .counted, so-far .watched)
+
+    pub sight-goes :
+        none ≡ firstOf (rulesAfter after (sampleAt controls words i) seqOn) →
+        SoFar w controls words seqOn (i + 1) (handshakes + cond (handshakeAt (sampleAt controls words) i) 1 0) (next after (getD controls i 0) (getD words i 0))
+    sight-goes e =
+        record {
+          nothing = goes-on (rulesFrom w controls words seqOn) i (so-far .nothing) (found-there none e);
+          counted = rw (add-one i, so-far .counted);
+          watched = rw (add-one i, so-far .watched);
+        }
+
+    pub sight-ends :
+        (n : ℕ) → i ≡ n →
+        _≡_ {A = Sight} (record { finding = clean; handshakes = handshakes; watch = after }) (sightBelow w controls words seqOn n)
+    sight-ends n e = rw (← e, so-far .nothing, so-far .counted, so-far .watched)
+
+    -- a cycle has at most one handshake
+    pub so-far-le : handshakes ≤ i
+    so-far-le = rw (so-far .counted) (count-le (handshakeAt (sampleAt controls words)) i)
+
+-- tables that agree in every cycle find the same
+finding-same :
+    (rules others : ℕ → List (Row RuleName)) → ((c : ℕ) → rules c ≡ others c) → (n : ℕ) → findingBelow rules n ≡ findingBelow others n
+finding-same rules others h zero = refl
+finding-same rules others h (suc n) =
+    ap (λ (f : Finding RuleName). found f (firstOf (rules n)) n) (finding-same rules others h n)
+    ∙ ap (λ (rows : List (Row RuleName)). found (findingBelow others n) (firstOf rows) n) (h n)
+
+-- from the start on, the sight is the verdict of the trace with its handshakes
+pub sight-from-start :
+    (controls words : List ℕ) (seqOn : Bool) (n : ℕ) →
+    let sight = sightBelow start controls words seqOn n in
+    _≡_ {A = Judgement} (record { verdict = judged (sight .finding); handshakes = sight .handshakes }) (judgedBelow seqOn (sampleAt controls words) n)
+sight-from-start controls words seqOn n =
+    rw (finding-same (rulesFrom start controls words seqOn) (rules seqOn (sampleAt controls words)) (rules-from-start controls words seqOn) n)
+
+-- a breach lies among the cycles, and there are no more handshakes than cycles
+pub finding-inside : (rules : ℕ → List (Row RuleName)) (n : ℕ) (r : RuleName) (c : ℕ) → findingBelow rules n ≡ broken r c → c < n
+finding-inside rules n r c e = judges rules n .broken-exactly r c .0 e .inside
+
+pub count-inside : (has : ℕ → Bool) (rules : ℕ → List (Row RuleName)) (n : ℕ) → countBelow has (cyclesCounted (findingBelow rules n) n) ≤ n
+count-inside has rules n = inside (findingBelow rules n) refl
+  where
+    inside : (f : Finding RuleName) → findingBelow rules n ≡ f → countBelow has (cyclesCounted f n) ≤ n
+    inside clean e = count-le has n
+    inside (broken r c) e = omega (arith, count-le has c, finding-inside rules n r c e)
+
+-- What whoever calls the loop with sequences of one length knows of its answer.
+module _ (seen : Seen) (w : Watch) (controls words : List ℕ) (seqOn : Bool) (same : length controls ≡ length words)
+    (sees : sightOf seen ≡ sightBelow w controls words seqOn (min (length controls) (length words))) where
+  pub sees-all : sightOf seen ≡ sightBelow w controls words seqOn (length controls)
+  sees-all = sees ∙ ap (λ (n : ℕ). sightBelow w controls words seqOn n) fewer
+    where
+      fewer : min (length controls) (length words) ≡ length controls
+      fewer = omega (arith, same)
+
+  pub handshakes-inside : seen .handshakes ≤ length controls
+  handshakes-inside =
+      rw (ap handshakes sees-all)
+      (count-inside (handshakeAt (sampleAt controls words)) (rulesFrom w controls words seqOn) (length controls))
+
+  pub cycle-inside : (rule : Rule) (c : ℕ) → seen .found ≡ First rule c → c < length controls
+  cycle-inside rule c e =
+      finding-inside (rulesFrom w controls words seqOn) (length controls) (ruleName rule) c (sym (ap finding sees-all) ∙ ap findingOf e)
+
+  -- from the start on it is the verdict of the trace
+  pub sees-verdict :
+      w ≡ start → (f : Found) → seen .found ≡ f →
+      _≡_ {A = Judgement} (record { verdict = judged (findingOf f); handshakes = seen .handshakes }) (judgedBelow seqOn (sampleAt controls words) (length controls))
+  sees-verdict e f found-is =
+      ap (λ (g : Found). record { verdict = judged (findingOf g); handshakes = seen .handshakes }) (sym found-is)
+      ∙ ap (λ (s : Sight). record { verdict = judged (s .finding); handshakes = s .handshakes }) sees-all
+      ∙ ap (λ (v : Watch). let s = sightBelow v controls words seqOn (length controls) in record { verdict = judged (s .finding); handshakes = s .handshakes }) e
+      ∙ sight-from-start controls words seqOn (length controls)

@@ -1,22 +1,28 @@
--- The checker's step over one cycle: what it keeps of the cycles before, and which rule one more breaks first.
--- The contracts of private functions cite this; the promise of `check_stream` does not. Assumes nothing.
-use Prim.Native.Nat.{ℕ, _+_}
+-- The checker's step over one cycle: what it keeps of the cycles before, which rule one more breaks first, and so over further cycles.
+-- `judge_cycles` and the private functions cite this; the promise of `check_stream` does not. Assumes nothing.
+use Prim.Native.Nat.{ℕ, zero, suc}
 use mathlib.Core.Bool.{Bool, true, false, cond, not, _&&_}
 use mathlib.Core.List.{List, [], _∷_}
 use mathlib.Core.Option.{Option, none, some}
 use lib.Dec.{eqb}
-use Rattle.signals.specs.Stream.{Sample, sample, handshake}
+use lib.ListN.{getD}
+use Rattle.signals.specs.Judging.{Finding, clean, broken, countBelow, findingBelow, cyclesCounted}
+use Rattle.signals.specs.Stream.{Sample, sample, sampleAt}
 use Rattle.signals.specs.Tables.{Row, _⇐_}
 use Rattle.signals.specs.Written.{RuleName, seq}
+use Rattle.stream_checker.specs.declared.Found.{Found}
+use Rattle.stream_checker.specs.declared.Found.the-variants.{NoBreach, First}
+use Rattle.stream_checker.specs.declared.Seen.{Seen}
 use Rattle.stream_checker.specs.declared.watch.Breach.{Breach}
 use Rattle.stream_checker.specs.declared.watch.Breach.the-variants.{Nothing, Of}
 use Rattle.stream_checker.specs.declared.watch.Watch.{Watch}
 use Rattle.stream_checker.specs.Rules.{breaksHeld, breaksStable, counter, afterCounter, carriesCounter, inOrder}
+use Rattle.stream_checker.specs.Verdicts.{handshakeAt}
 use Rattle.stream_checker.specs.Written.{ruleName}
 
--- nothing is stalled, no counter was carried, and nothing was counted
+-- nothing is stalled, and no counter was carried
 abbrev pub start : Watch
-start = record { control = 0; «data» = 0; counted = false; due = 0; handshakes = 0 }
+start = record { control = 0; «data» = 0; counted = false; due = 0 }
 
 -- the cycle before
 abbrev pub before : Watch → Sample
@@ -51,5 +57,37 @@ next w control word =
       «data» = word;
       counted = cond (carriesCounter (sample control word)) true (w .counted);
       due = cond (carriesCounter (sample control word)) (afterCounter (counter (sample control word))) (w .due);
-      handshakes = w .handshakes + cond (handshake (sample control word)) 1 0;
     }
+
+-- the watch after the first n of further cycles
+abbrev pub watchAfter : Watch → (controls words : List ℕ) → ℕ → Watch
+watchAfter w controls words zero = w
+watchAfter w controls words (suc n) = next (watchAfter w controls words n) (getD controls n 0) (getD words n 0)
+
+-- the rules in each of them
+abbrev pub rulesFrom : Watch → (controls words : List ℕ) → (seqOn : Bool) → ℕ → List (Row RuleName)
+rulesFrom w controls words seqOn c = rulesAfter (watchAfter w controls words c) (sampleAt controls words c) seqOn
+
+-- What is seen in further cycles: the first breach, and the handshakes and the watch before it; or none, and those at the end.
+pub record Sight : Type 0 where
+  pub finding : Finding RuleName
+  pub handshakes : ℕ
+  pub watch : Watch
+
+-- the sight of the first n of them
+abbrev pub sightBelow : Watch → (controls words : List ℕ) → (seqOn : Bool) → ℕ → Sight
+sightBelow w controls words seqOn n =
+    let finding = findingBelow (rulesFrom w controls words seqOn) n in
+    record {
+      finding = finding;
+      handshakes = countBelow (handshakeAt (sampleAt controls words)) (cyclesCounted finding n);
+      watch = watchAfter w controls words (cyclesCounted finding n);
+    }
+
+-- what the code found
+abbrev pub findingOf : Found → Finding RuleName
+findingOf NoBreach = clean
+findingOf (First rule c) = broken (ruleName rule) c
+
+abbrev pub sightOf : Seen → Sight
+sightOf seen = record { finding = findingOf (seen .found); handshakes = seen .handshakes; watch = seen .watch }

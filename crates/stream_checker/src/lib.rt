@@ -1,22 +1,27 @@
 // The checker of HWPE-Stream traces: which cycle breaks a rule first, and which rule.
 //
 // Writes out "Stream rules" of document 01, with request T-04. It is document 01's judge of HWPE-Stream traces.
-mod watch;
+pub mod watch;
 
+ghost use mathlib.Core.Bool.{cond};
 ghost use mathlib.Core.Path.{_≡_};
-ghost use Prim.Native.Nat.{_≤_};
+ghost use Prim.Native.Nat.{_+_, _<_, _≤_, _^_, min};
 ghost use lib.ListN.{length};
+ghost use Rattle.signals.specs.Numbers.{ruleNumber};
 ghost use Rattle.signals.specs.Refusals.{refusalOf, maxCycles};
-ghost use Rattle.signals.specs.Stream.{sampleAt};
+ghost use Rattle.signals.specs.Stream.{sample, sampleAt, handshake};
 ghost use Rattle.signals.specs.Tables.{firstOf};
 ghost use Rattle.stream_checker.specs.Verdicts.{grounds, judgedBelow, checkStream};
-ghost use Rattle.stream_checker.specs.Written.{written};
+ghost use Rattle.stream_checker.specs.Written.{ruleName, written};
+ghost use Rattle.stream_checker.specs.Step.{sightBelow, sightOf};
 use signals::MAX_CYCLES;
 use signals::Outcome;
 use signals::Refusal;
+use signals::SEQ;
 use signals::stream::any_reserved;
 use watch::Breach;
 use watch::Watch;
+use watch::handshake;
 
 // The rules, by what each asks. `specs/Written.antt` gives each its name in document 01.
 pub enum Rule {
@@ -28,10 +33,36 @@ pub enum Rule {
     Seq,
 }
 
+impl Rule {
+    // The rule's number where a call answers no enum.
+    pub fn number(self) -> u8
+        ensures { λ r. ⌜ r ≡ ruleNumber (ruleName self) ⌝ }
+    {
+        match self {
+            Rule::Held => 4,
+            Rule::Stable => 2,
+            Rule::Seq => SEQ,
+        }
+    }
+}
+
 pub enum Verdict {
     Clean,
     Broken(Rule, u32),
     Refused(Refusal),
+}
+
+// What is found in further cycles: no breach, or the first with its place among them.
+pub enum Found {
+    NoBreach,
+    First(Rule, usize),
+}
+
+// With it, the handshakes among the cycles before the breach, or among all, and what the next cycle is judged by.
+pub struct Seen {
+    pub found: Found,
+    pub handshakes: usize,
+    pub watch: Watch,
 }
 
 // A verdict, with the handshakes before the broken cycle, or in all cycles when clean.
@@ -56,28 +87,75 @@ fn refusal(control: &[u8], data: &[u32]) -> Outcome
     Outcome::Accepted
 }
 
-// The verdict on a trace that is not refused: up to the first breach, or to the end.
-fn judge_cycles(control: &[u8], data: &[u32], seq: bool) -> Checked
-    requires { ⌜ (length (now control) ≡ length (now «data»)) × (length (now control) ≤ maxCycles) ⌝ }
-    ensures { λ r. ⌜ written r ≡ judgedBelow seq (sampleAt (now (control .entry)) (now («data» .entry))) (length (now (control .entry))) ⌝ }
+// The number of cycles that both sequences have.
+fn cycles_of(control: &[u8], data: &[u32]) -> usize
+    ensures { λ r. ⌜ r ≡ min (length (now (control .entry))) (length (now («data» .entry))) ⌝ }
 {
-    let mut watch = Watch::start();
+    if control.len() < data.len() {
+        control.len()
+    } else {
+        data.len()
+    }
+}
+
+// How many handshakes there are with one cycle more.
+fn handshakes_with(handshakes: usize, control: u8) -> usize
+    requires { ⌜ handshakes + 1 < 2 ^ 64 ⌝ }
+    ensures { λ r. ⌜ r ≡ handshakes + cond (handshake (sample control 0)) 1 0 ⌝ }
+{
+    if handshake(control) {
+        handshakes + 1
+    } else {
+        handshakes
+    }
+}
+
+// Judges further cycles, as many as both sequences have, up to the first breach: the one loop for a trace and for a burst.
+pub fn judge_cycles(watch: Watch, control: &[u8], data: &[u32], seq: bool) -> Seen
+    ensures { λ r. ⌜ sightOf r ≡ sightBelow watch (now (control .entry)) (now («data» .entry)) seq (min (length (now (control .entry))) (length (now («data» .entry)))) ⌝ }
+{
+    let count = cycles_of(control, data);
+    let mut watch = watch;
+    let mut handshakes = 0;
     let mut i = 0;
-    while i < control.len() {
+    while i < count {
         let c = control[i];
         let d = data[i];
         if let Breach::Of(rule) = watch.breach(c, d, seq) {
-            return Checked {
-                verdict: Verdict::Broken(rule, i as u32),
-                handshakes: watch.handshakes,
+            return Seen {
+                found: Found::First(rule, i),
+                handshakes,
+                watch,
             };
         }
+        handshakes = handshakes_with(handshakes, c);
         watch = watch.next(c, d);
         i += 1;
     }
-    Checked {
-        verdict: Verdict::Clean,
-        handshakes: watch.handshakes,
+    Seen {
+        found: Found::NoBreach,
+        handshakes,
+        watch,
+    }
+}
+
+// The verdict on a trace that is not refused.
+fn judge_trace(control: &[u8], data: &[u32], seq: bool) -> Checked
+    requires { ⌜ (length (now control) ≡ length (now «data»)) × (length (now control) ≤ maxCycles) ⌝ }
+    ensures { λ r. ⌜ written r ≡ judgedBelow seq (sampleAt (now (control .entry)) (now («data» .entry))) (length (now (control .entry))) ⌝ }
+{
+    let seen = judge_cycles(Watch::start(), control, data, seq);
+    let handshakes = seen.handshakes as u32;
+    let found = seen.found;
+    match found {
+        Found::NoBreach => Checked {
+            verdict: Verdict::Clean,
+            handshakes,
+        },
+        Found::First(rule, cycle) => Checked {
+            verdict: Verdict::Broken(rule, cycle as u32),
+            handshakes,
+        },
     }
 }
 
@@ -86,7 +164,7 @@ pub fn check_stream(control: &[u8], data: &[u32], seq: bool) -> Checked
     ensures { λ r. ⌜ written r ≡ checkStream (now (control .entry)) (now («data» .entry)) seq ⌝ }
 {
     match refusal(control, data) {
-        Outcome::Accepted => judge_cycles(control, data, seq),
+        Outcome::Accepted => judge_trace(control, data, seq),
         Outcome::Refused(why) => Checked {
             verdict: Verdict::Refused(why),
             handshakes: 0,

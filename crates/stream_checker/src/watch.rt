@@ -1,7 +1,6 @@
 // What the checker keeps of the cycles that it has seen, and its step over one more.
 ghost use mathlib.Core.Bool.{_&&_};
 ghost use mathlib.Core.Path.{_≡_};
-ghost use Prim.Native.Nat.{_+_, _<_, _^_};
 ghost use Rattle.signals.specs.Payloads.{strobed, samePayload};
 ghost use Rattle.signals.specs.Stream.{sample, handshake};
 ghost use Rattle.stream_checker.specs.Rules.{stalled, carriesCounter, counter, afterCounter};
@@ -21,17 +20,17 @@ pub(crate) enum Breach {
     Of(Rule),
 }
 
-pub(crate) struct Watch {
+// What the next cycle is judged by.
+pub struct Watch {
     // The cycle before.
-    pub(crate) control: u8,
-    pub(crate) data: u32,
+    pub control: u8,
+    pub data: u32,
     // Whether a counter was carried, and the counter that is due next.
-    pub(crate) counted: bool,
-    pub(crate) due: u32,
-    pub(crate) handshakes: u32,
+    pub counted: bool,
+    pub due: u32,
 }
 
-fn handshake(control: u8) -> bool
+pub(crate) fn handshake(control: u8) -> bool
     ensures { λ r. ⌜ r ≡ handshake (sample control 0) ⌝ }
 {
     valid(control) & ready(control)
@@ -52,7 +51,7 @@ fn carries_counter(control: u8) -> bool
 }
 
 // Whether a cycle lays a duty on the next.
-fn stalled(control: u8) -> bool
+pub fn stalled(control: u8) -> bool
     ensures { λ r. ⌜ r ≡ stalled (sample control 0) ⌝ }
 {
     valid(control) & !ready(control)
@@ -66,8 +65,8 @@ fn due_after(data: u32) -> u32
 }
 
 impl Watch {
-    // Before the first cycle nothing is stalled, no counter was carried, and nothing was counted.
-    pub(crate) fn start() -> Watch
+    // Before the first cycle nothing is stalled and no counter was carried.
+    pub fn start() -> Watch
         ensures { λ r. ⌜ r ≡ start ⌝ }
     {
         Watch {
@@ -75,7 +74,6 @@ impl Watch {
             data: 0,
             counted: false,
             due: 0,
-            handshakes: 0,
         }
     }
 
@@ -132,31 +130,16 @@ impl Watch {
         }
     }
 
-    // How many handshakes there were, with the next cycle.
-    fn handshakes_with(self, control: u8) -> u32
-        requires { ⌜ self .handshakes + 1 < 2 ^ 32 ⌝ }
-        ensures { λ r. ⌜ r ≡ next self control 0 .handshakes ⌝ }
-    {
-        if handshake(control) {
-            self.handshakes + 1
-        } else {
-            self.handshakes
-        }
-    }
-
     // The watch after the next cycle.
     pub(crate) fn next(self, control: u8, data: u32) -> Watch
-        requires { ⌜ self .handshakes + 1 < 2 ^ 32 ⌝ }
         ensures { λ r. ⌜ r ≡ next self control «data» ⌝ }
     {
-        let handshakes = self.handshakes_with(control);
         if carries_counter(control) {
             return Watch {
                 control,
                 data,
                 counted: true,
                 due: due_after(data),
-                handshakes,
             };
         }
         Watch {
@@ -164,7 +147,6 @@ impl Watch {
             data,
             counted: self.counted,
             due: self.due,
-            handshakes,
         }
     }
 }

@@ -1,4 +1,4 @@
--- `check_stream` meets its contract: what `refusal` ensures decides between what `judge_cycles` ensures and the refused answer.
+-- `check_stream` meets its contract: what `refusal` ensures decides between what `judge_trace` ensures and the refused answer.
 -- Assumes nothing.
 use mathlib.Core.Path.{sym, _∙_, ap}
 use borrow.Author.Needs.{needs}
@@ -16,8 +16,8 @@ refusal-requires c κs = search needs
 enum-told : tie.Need-enum-told
 enum-told c = search needs
 
-judge-cycles-requires : tie.Need-judge-cycles-requires
-judge-cycles-requires c κs =
+judge-trace-requires : tie.Need-judge-trace-requires
+judge-trace-requires c κs =
     let a = c .before .before .before .before .before .args in
     let free = none-keeps (grounds (a .control .now) (a .«data» .now)) (sym (c .before .before .refusal .ensures) ∙ ap refusalOf (c .enum-told .given .1)) in
     (eqb-true _ _ (not-false _ (free .0)), ltb-false _ _ (free .1 .0))
@@ -28,7 +28,7 @@ enum-known-why c = search needs
 returns : tie.Need-returns
 unfolding checkStream
 returns c =
-    c .judge-cycles .ensures
+    c .judge-trace .ensures
     ∙ rw (sym (c .before .before .before .refusal .ensures) ∙ ap refusalOf (c .before .enum-told .given .1))
 
 returns-2 : tie.Need-returns-2
@@ -36,4 +36,4 @@ unfolding checkStream
 returns-2 c = rw (sym (c .before .before .before .refusal .ensures) ∙ ap refusalOf (c .before .why .given .1))
 
 pub check-stream-spec : {M : Type 1} → statement M
-check-stream-spec = tie.close (tie.spec refusal-requires enum-told judge-cycles-requires enum-known-why returns returns-2)
+check-stream-spec = tie.close (tie.spec refusal-requires enum-told judge-trace-requires enum-known-why returns returns-2)

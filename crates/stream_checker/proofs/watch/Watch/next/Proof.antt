@@ -4,9 +4,6 @@ use borrow.Author.Needs.{needs}
 use Rattle.stream_checker.proofs.watch.Watch.next.Statement.{statement}
 use Rattle.stream_checker.proofs.watch.Watch.next.Tie as tie
 
-handshakes-with-requires : tie.Need-handshakes-with-requires
-handshakes-with-requires c κs = search needs
-
 carries-counter-requires : tie.Need-carries-counter-requires
 carries-counter-requires c κs = search needs
 
@@ -14,10 +11,10 @@ due-after-requires : tie.Need-due-after-requires
 due-after-requires c κs = search needs
 
 returns : tie.Need-returns
-returns c = simp (c .before .before .before .handshakes-with .ensures, c .due-after .ensures, sym (c .before .before .carries-counter .ensures), c .before .if1 .taken)
+returns c = simp (c .due-after .ensures, sym (c .before .before .carries-counter .ensures), c .before .if1 .taken)
 
 returns-2 : tie.Need-returns-2
-returns-2 c = simp (c .before .before .handshakes-with .ensures, sym (c .before .carries-counter .ensures), c .if1 .left)
+returns-2 c = simp (sym (c .before .carries-counter .ensures), c .if1 .left)
 
 pub next-spec : {M : Type 1} → statement M
-next-spec = tie.close (tie.spec handshakes-with-requires carries-counter-requires due-after-requires returns returns-2)
+next-spec = tie.close (tie.spec carries-counter-requires due-after-requires returns returns-2)

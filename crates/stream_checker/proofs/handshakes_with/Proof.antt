@@ -1,9 +1,9 @@
--- `Watch::handshakes_with` meets its contract, by the two arms of its test. Assumes nothing.
+-- `handshakes_with` meets its contract, by the two arms of its test. Assumes nothing.
 use mathlib.Core.Path.{sym}
 use native.Mathlib.Nat.{add-zero}
 use borrow.Author.Needs.{needs}
-use Rattle.stream_checker.proofs.watch.Watch.handshakes_with.Statement.{statement}
-use Rattle.stream_checker.proofs.watch.Watch.handshakes_with.Tie as tie
+use Rattle.stream_checker.proofs.handshakes_with.Statement.{statement}
+use Rattle.stream_checker.proofs.handshakes_with.Tie as tie
 
 handshake-requires : tie.Need-handshake-requires
 handshake-requires c κs = search needs
@@ -12,7 +12,7 @@ add-result : tie.Need-add-result
 add-result c = search needs
 
 returns : tie.Need-returns
-returns c = simp (sym (c .before .before .handshake .ensures), c .before .if1 .taken)
+returns c = simp (sym (c .before .handshake .ensures), c .if1 .taken)
 
 returns-2 : tie.Need-returns-2
 returns-2 c = simp (sym (c .before .handshake .ensures), c .if1 .left, add-zero)
