@@ -1,0 +1,10 @@
+pub mod Tells
+pub mod Legal
+pub mod Stall
+pub mod Outcomes
+pub mod Following
+pub mod Judged
+pub mod Keeps
+pub mod OneCycle
+pub mod Reached
+pub mod Cutting

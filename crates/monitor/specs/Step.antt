@@ -1,0 +1,69 @@
+-- What the checker of whole traces keeps, and what a record keeps of it. The contracts of private functions cite this. Assumes nothing.
+use Prim.Native.Nat.{ℕ, _+_, _*_}
+use mathlib.Core.Bool.{Bool, true, false, cond, _&&_}
+use mathlib.Core.Option.{Option, none, some}
+use Rattle.signals.specs.Numbers.{ruleNumber}
+use Rattle.signals.specs.Payloads.{zeros}
+use Rattle.signals.specs.Written.{RuleName}
+use Rattle.signals.specs.declared.Outcome.{Outcome}
+use Rattle.signals.specs.declared.Outcome.the-variants.{Accepted, Refused}
+use Rattle.signals.specs.declared.Refusal.{Refusal}
+use Rattle.stream_checker.specs.Rules.{stalled}
+use Rattle.stream_checker.specs.Step.{before}
+use Rattle.stream_checker.specs.declared.watch.Watch.{Watch}
+use Rattle.monitor.specs.declared.Monitor.{Monitor}
+
+-- the outcome by the first ground, if there is one
+abbrev pub outcomeBy : Option Refusal → Outcome
+outcomeBy none = Accepted
+outcomeBy (some why) = Refused why
+
+-- the watch from which a burst is judged: the last cycle as if it were just seen, valid 1 and ready 0 if it stalled
+abbrev pub watchOf : Monitor → Watch
+watchOf m =
+    record {
+      control = cond (m .stalled) (1 + 16 * m .payload .strb) 0;
+      «data» = m .payload .«data»;
+      counted = m .counted;
+      due = m .due;
+    }
+
+-- the clean record of a watch
+abbrev pub kept : (seqOn : Bool) → (cycles handshakes : ℕ) → Watch → Monitor
+kept seqOn cycles handshakes w =
+    record {
+      seq = seqOn;
+      cycles = cycles;
+      verdict = 1;
+      rule = 0;
+      cycle = 0;
+      handshakes = handshakes;
+      stalled = stalled (before w);
+      payload = cond (stalled (before w)) (before w .payload) zeros;
+      counted = seqOn && w .counted;
+      due = cond (seqOn && w .counted) (w .due) 0;
+    }
+
+-- a broken record
+abbrev pub brokenAt : (seqOn : Bool) → (cycles rule cycle handshakes : ℕ) → Monitor
+brokenAt seqOn cycles rule cycle handshakes =
+    record {
+      seq = seqOn;
+      cycles = cycles;
+      verdict = 2;
+      rule = rule;
+      cycle = cycle;
+      handshakes = handshakes;
+      stalled = false;
+      payload = zeros;
+      counted = false;
+      due = 0;
+    }
+
+-- a broken record that has seen more
+abbrev pub stillBroken : Monitor → (cycles : ℕ) → Monitor
+stillBroken m cycles = brokenAt (m .seq) cycles (m .rule) (m .cycle) (m .handshakes)
+
+-- a clean record that is broken in cycle c of a burst
+abbrev pub brokenIn : Monitor → (cycles handshakes : ℕ) → RuleName → (c : ℕ) → Monitor
+brokenIn m cycles handshakes rule c = brokenAt (m .seq) cycles (ruleNumber rule) (m .cycles + c) handshakes

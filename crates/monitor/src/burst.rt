@@ -1,0 +1,142 @@
+// The record after a burst that is not refused: the checker's watch is taken from the record, and its sight put back.
+ghost use mathlib.Core.Bool.{true};
+ghost use mathlib.Core.Path.{_≡_};
+ghost use Prim.Native.Nat.{_+_, _≤_};
+ghost use lib.ListN.{length};
+ghost use Rattle.signals.specs.Payloads.{maxStrb};
+ghost use Rattle.signals.specs.Stream.{sampleAt};
+ghost use Rattle.stream_checker.specs.Written.{ruleName};
+ghost use Rattle.monitor.specs.Record.{legal};
+ghost use Rattle.monitor.specs.Cycle.{afterCycles};
+ghost use Rattle.monitor.specs.Bursts.{maxSeen};
+ghost use Rattle.monitor.specs.Step.{watchOf, kept, brokenAt, stillBroken, brokenIn};
+use crate::Monitor;
+use signals::BROKEN;
+use signals::CLEAN;
+use signals::Payload;
+use signals::stream::strb;
+use stream_checker::Found;
+use stream_checker::Rule;
+use stream_checker::judge_cycles;
+use stream_checker::watch::Watch;
+use stream_checker::watch::stalled;
+
+// The last cycle as if it were just seen: valid 1 and ready 0 if it stalled.
+fn last_control(m: Monitor) -> u8
+    requires { ⌜ m .payload .strb ≤ maxStrb ⌝ }
+    ensures { λ r. ⌜ r ≡ watchOf m .control ⌝ }
+{
+    if m.stalled {
+        1 + 16 * m.payload.strb
+    } else {
+        0
+    }
+}
+
+fn watch_of(m: Monitor) -> Watch
+    requires { ⌜ m .payload .strb ≤ maxStrb ⌝ }
+    ensures { λ r. ⌜ r ≡ watchOf m ⌝ }
+{
+    Watch {
+        control: last_control(m),
+        data: m.payload.data,
+        counted: m.counted,
+        due: m.due,
+    }
+}
+
+// What is kept of the last cycle: its payload if it stalled.
+fn payload_kept(watch: Watch) -> Payload
+    ensures { λ r. ⌜ r ≡ kept true 0 0 watch .payload ⌝ }
+{
+    if stalled(watch.control) {
+        Payload {
+            data: watch.data,
+            strb: strb(watch.control),
+        }
+    } else {
+        Payload { data: 0, strb: 0 }
+    }
+}
+
+// The counter due, where one was carried and is judged.
+fn due_kept(seq: bool, watch: Watch) -> u32
+    ensures { λ r. ⌜ r ≡ kept seq 0 0 watch .due ⌝ }
+{
+    if seq & watch.counted { watch.due } else { 0 }
+}
+
+fn clean_record(seq: bool, cycles: u32, handshakes: u32, watch: Watch) -> Monitor
+    ensures { λ r. ⌜ r ≡ kept seq cycles handshakes watch ⌝ }
+{
+    Monitor {
+        seq,
+        cycles,
+        verdict: CLEAN,
+        rule: 0,
+        cycle: 0,
+        handshakes,
+        stalled: stalled(watch.control),
+        payload: payload_kept(watch),
+        counted: seq & watch.counted,
+        due: due_kept(seq, watch),
+    }
+}
+
+fn broken_record(seq: bool, cycles: u32, rule: u8, cycle: u32, handshakes: u32) -> Monitor
+    ensures { λ r. ⌜ r ≡ brokenAt seq cycles rule cycle handshakes ⌝ }
+{
+    Monitor {
+        seq,
+        cycles,
+        verdict: BROKEN,
+        rule,
+        cycle,
+        handshakes,
+        stalled: false,
+        payload: Payload { data: 0, strb: 0 },
+        counted: false,
+        due: 0,
+    }
+}
+
+// A broken record that has seen more.
+fn still_broken(m: Monitor, cycles: u32) -> Monitor
+    ensures { λ r. ⌜ r ≡ stillBroken m cycles ⌝ }
+{
+    broken_record(m.seq, cycles, m.rule, m.cycle, m.handshakes)
+}
+
+// A clean record that is broken in a cycle of the burst.
+fn broken_in(m: Monitor, cycles: u32, handshakes: u32, rule: Rule, c: usize) -> Monitor
+    requires { ⌜ m .cycles + c ≤ maxSeen ⌝ }
+    ensures { λ r. ⌜ r ≡ brokenIn m cycles handshakes (ruleName rule) c ⌝ }
+{
+    broken_record(
+        m.seq,
+        cycles,
+        rule.number(),
+        m.cycles + c as u32,
+        handshakes,
+    )
+}
+
+pub(crate) fn after(m: Monitor, control: &[u8], data: &[u32]) -> Monitor
+    requires { ⌜ (length (now control) ≡ length (now «data»)) × (m .cycles + length (now control) ≤ maxSeen) × (legal m ≡ true) ⌝ }
+    ensures { λ r. ⌜ r ≡ afterCycles m (sampleAt (now (control .entry)) (now («data» .entry))) (length (now (control .entry))) ⌝ }
+{
+    let cycles = m.cycles + control.len() as u32;
+    if m.verdict == BROKEN {
+        return still_broken(m, cycles);
+    }
+    let seen = judge_cycles(watch_of(m), control, data, m.seq);
+    let handshakes = m.handshakes + seen.handshakes as u32;
+    let found = seen.found;
+    match found {
+        Found::NoBreach => {
+            let watch = seen.watch;
+            clean_record(m.seq, cycles, handshakes, watch)
+        }
+        Found::First(rule, c) => broken_in(m, cycles, handshakes, rule, c),
+    }
+}
