@@ -16,7 +16,7 @@ use Rattle.signals.specs.Tables.{Row, firstOf}
 use Rattle.signals.specs.Written.{RuleName}
 use Rattle.signals.specs.declared.Payload.{Payload}
 use Rattle.stream_checker.specs.Rules.{stalled, breaksHeld, breaksStable, counter, afterCounter, carriesCounter, inOrder}
-use Rattle.stream_checker.specs.Step.{before, rulesAfter, next, watchAfter, rulesFrom}
+use Rattle.stream_checker.specs.Step.{before, breaksSeqAfter, rulesAfter, next, watchAfter, rulesFrom}
 use Rattle.stream_checker.specs.Verdicts.{handshakeAt}
 use Rattle.stream_checker.specs.declared.watch.Watch.{Watch}
 use Rattle.monitor.specs.declared.Monitor.{Monitor}
@@ -35,55 +35,14 @@ stable-alike :
 stable-alike true valid p q = refl
 stable-alike false valid p q = refl
 
--- where seq is off no counter is kept, and none is judged
-seq-alike :
-    (seqOn held stable carries counted : Bool) (n due : ℕ) →
-    inOrder seqOn held stable (carries && ((seqOn && counted) && not (eqb n (cond (seqOn && counted) due 0))))
-    ≡ inOrder seqOn held stable (carries && (counted && not (eqb n due)))
-seq-alike true held stable carries true n due = refl
-seq-alike true held stable carries false n due = refl
-seq-alike false held stable carries counted n due = refl
-
-counted-alike : (seqOn carries counted : Bool) → cond (seqOn && carries) true (seqOn && counted) ≡ seqOn && cond carries true counted
-counted-alike true carries counted = refl
-counted-alike false carries counted = refl
-
-due-alike :
-    (seqOn carries counted : Bool) (n due : ℕ) →
-    cond (seqOn && carries) n (cond (seqOn && counted) due 0) ≡ cond (seqOn && cond carries true counted) (cond carries n due) 0
-due-alike true true counted n due = refl
-due-alike true false counted n due = refl
-due-alike false carries counted n due = refl
-
 -- one step of a watch, as its record takes it
 module _ (seqOn : Bool) (cycles handshakes : ℕ) (w : Watch) where
   rules-alike : (now : Sample) → rulesNext (kept seqOn cycles handshakes w) now ≡ rulesAfter w now seqOn
   rules-alike now =
       let s = stalled (before w) in
       let m = kept seqOn cycles handshakes w in
-      let sequence = carriesCounter now && ((seqOn && w .counted) && not (eqb (counter now) (cond (seqOn && w .counted) (w .due) 0))) in
-      ap (λ (b : Bool). inOrder seqOn b (breaksStable (lastSeen m) now) sequence) (held-alike s (now .valid))
-      ∙ ap (λ (b : Bool). inOrder seqOn (breaksHeld (before w) now) b sequence) (stable-alike s (now .valid) (before w .payload) (now .payload))
-      ∙ seq-alike seqOn (breaksHeld (before w) now) (breaksStable (before w) now) (carriesCounter now) (w .counted) (counter now) (w .due)
-
-  passed-alike :
-      (control word : ℕ) →
-      passed (kept seqOn cycles handshakes w) (sample control word)
-      ≡ kept seqOn (cycles + 1) (handshakes + cond (handshake (sample control word)) 1 0) (next w control word)
-  passed-alike control word =
-      let now = sample control word in
-      λ i. record {
-        seq = seqOn;
-        cycles = cycles + 1;
-        verdict = 1;
-        rule = 0;
-        cycle = 0;
-        handshakes = handshakes + cond (handshake now) 1 0;
-        stalled = stalled now;
-        payload = cond (stalled now) (now .payload) zeros;
-        counted = counted-alike seqOn (carriesCounter now) (w .counted) i;
-        due = due-alike seqOn (carriesCounter now) (w .counted) (afterCounter (counter now)) (w .due) i;
-      }
+      ap (λ (b : Bool). inOrder seqOn b (breaksStable (lastSeen m) now) (breaksSeqAfter w now)) (held-alike s (now .valid))
+      ∙ ap (λ (b : Bool). inOrder seqOn (breaksHeld (before w) now) b (breaksSeqAfter w now)) (stable-alike s (now .valid) (before w .payload) (now .payload))
 
 -- the last cycle, taken from a record and put back
 module _ (p : Payload) where
@@ -98,19 +57,9 @@ module _ (p : Payload) where
   payload-back true z = ap (λ (t : Sample). cond (stalled t) (t .payload) zeros) (stall-sample p)
   payload-back false z = sym (z refl)
 
-counted-back : (seqOn counted : Bool) → (seqOn ≡ false → counted ≡ false) → seqOn && counted ≡ counted
-counted-back true counted off = refl
-counted-back false counted off = sym (off refl)
-
-due-back : (counted : Bool) (due : ℕ) → (counted ≡ false → due ≡ 0) → cond counted due 0 ≡ due
-due-back true due off = refl
-due-back false due off = sym (off refl)
-
 -- the record of the watch that a clean record gives is that record
 kept-back : (m : Monitor) → Clean m → kept (m .seq) (m .cycles) (m .handshakes) (watchOf m) ≡ m
 kept-back m c =
-    let counted = counted-back (m .seq) (m .counted) (c .unswitched) in
-    let due = ap (λ (b : Bool). cond b (m .due) 0) counted ∙ due-back (m .counted) (m .due) (c .uncounted) in
     λ i. record {
       seq = m .seq;
       cycles = m .cycles;
@@ -120,8 +69,8 @@ kept-back m c =
       handshakes = m .handshakes;
       stalled = stall-back (m .payload) (m .stalled) i;
       payload = payload-back (m .payload) (m .stalled) (c .unstalled) i;
-      counted = counted i;
-      due = due i;
+      counted = m .counted;
+      due = m .due;
     }
 
 module _ (m : Monitor) (controls words : List ℕ) where
@@ -133,12 +82,12 @@ module _ (m : Monitor) (controls words : List ℕ) where
 
   -- the record after n cycles, by what is found in them
   abbrev pub Stands : ℕ → Finding RuleName → Monitor → Type 0
-  Stands n clean r = r ≡ kept (m .seq) (m .cycles + n) (m .handshakes + countBelow (handshakeAt trace) n) (watchAfter (watchOf m) controls words n)
+  Stands n clean r = r ≡ kept (m .seq) (m .cycles + n) (m .handshakes + countBelow (handshakeAt trace) n) (watchAfter (m .seq) (watchOf m) controls words n)
   Stands n (broken rule c) r = r ≡ brokenIn m (m .cycles + n) (m .handshakes + countBelow (handshakeAt trace) c) rule c
 
   stands-next : (n : ℕ) (f : Finding RuleName) (o : Option RuleName) (r : Monitor) → firstOf (rules n) ≡ o → Stands n f r → Stands (suc n) (found f o n) (oneMore r (trace n))
   stands-next n clean none r e s =
-      let w = watchAfter (watchOf m) controls words n in
+      let w = watchAfter (m .seq) (watchOf m) controls words n in
       let hs = countBelow (handshakeAt trace) n in
       let k = kept (m .seq) (m .cycles + n) (m .handshakes + hs) w in
       let one : ℕ = cond (handshakeAt trace n) 1 0 in
@@ -146,10 +95,9 @@ module _ (m : Monitor) (controls words : List ℕ) where
       let counted : m .handshakes + hs + one ≡ m .handshakes + (hs + one) = omega arith in
       ap (λ (x : Monitor). oneMore x (trace n)) s
       ∙ ap (judgedNext k (trace n)) (ap firstOf (rules-alike (m .seq) (m .cycles + n) (m .handshakes + hs) w (trace n)) ∙ e)
-      ∙ passed-alike (m .seq) (m .cycles + n) (m .handshakes + hs) w (getD controls n 0) (getD words n 0)
-      ∙ (λ i. kept (m .seq) (seen i) (counted i) (next w (getD controls n 0) (getD words n 0)))
+      ∙ (λ i. kept (m .seq) (seen i) (counted i) (next (m .seq) w (getD controls n 0) (getD words n 0)))
   stands-next n clean (some rule) r e s =
-      let w = watchAfter (watchOf m) controls words n in
+      let w = watchAfter (m .seq) (watchOf m) controls words n in
       let hs = countBelow (handshakeAt trace) n in
       let k = kept (m .seq) (m .cycles + n) (m .handshakes + hs) w in
       let seen : m .cycles + n + 1 ≡ m .cycles + suc n = omega arith in

@@ -42,7 +42,7 @@ module _ (m : Monitor) (c : Clean m) (seen : Seen) (w : Watch) (is-watch : w ≡
   record Told (f : Finding RuleName) : Type 0 where
     record-is : Stands m controls words (length controls) f (afterCycles m (sampleAt controls words) (length controls))
     counted : seen .handshakes ≡ countBelow (handshakeAt (sampleAt controls words)) (cyclesCounted f (length controls))
-    watched : seen .watch ≡ watchAfter (watchOf m) controls words (cyclesCounted f (length controls))
+    watched : seen .watch ≡ watchAfter (m .seq) (watchOf m) controls words (cyclesCounted f (length controls))
 
   told : (f : Finding RuleName) → findingOf (seen .found) ≡ f → Told f
   told f e =

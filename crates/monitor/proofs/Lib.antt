@@ -8,3 +8,4 @@ pub mod Keeps
 pub mod OneCycle
 pub mod Reached
 pub mod Cutting
+pub mod Lent

@@ -1,6 +1,6 @@
 -- What the checker of whole traces keeps, and what a record keeps of it. The contracts of private functions cite this. Assumes nothing.
 use Prim.Native.Nat.{ℕ, _+_, _*_}
-use mathlib.Core.Bool.{Bool, true, false, cond, _&&_}
+use mathlib.Core.Bool.{Bool, true, false, cond}
 use mathlib.Core.Option.{Option, none, some}
 use Rattle.signals.specs.Numbers.{ruleNumber}
 use Rattle.signals.specs.Payloads.{zeros}
@@ -40,8 +40,8 @@ kept seqOn cycles handshakes w =
       handshakes = handshakes;
       stalled = stalled (before w);
       payload = cond (stalled (before w)) (before w .payload) zeros;
-      counted = seqOn && w .counted;
-      due = cond (seqOn && w .counted) (w .due) 0;
+      counted = w .counted;
+      due = w .due;
     }
 
 -- a broken record

@@ -59,13 +59,6 @@ fn payload_kept(watch: Watch) -> Payload
     }
 }
 
-// The counter due, where one was carried and is judged.
-fn due_kept(seq: bool, watch: Watch) -> u32
-    ensures { λ r. ⌜ r ≡ kept seq 0 0 watch .due ⌝ }
-{
-    if seq & watch.counted { watch.due } else { 0 }
-}
-
 fn clean_record(seq: bool, cycles: u32, handshakes: u32, watch: Watch) -> Monitor
     ensures { λ r. ⌜ r ≡ kept seq cycles handshakes watch ⌝ }
 {
@@ -78,8 +71,8 @@ fn clean_record(seq: bool, cycles: u32, handshakes: u32, watch: Watch) -> Monito
         handshakes,
         stalled: stalled(watch.control),
         payload: payload_kept(watch),
-        counted: seq & watch.counted,
-        due: due_kept(seq, watch),
+        counted: watch.counted,
+        due: watch.due,
     }
 }
 

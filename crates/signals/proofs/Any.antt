@@ -1,6 +1,6 @@
 -- One turn of a loop that looks for an entry with a property: what is left, looked through from here, answers for the whole.
 -- Assumes nothing.
-use mathlib.Core.Path.{_≡_}
+use mathlib.Core.Path.{_≡_, refl, _∙_}
 use mathlib.Core.Bool.{Bool, true, false, _||_}
 use mathlib.Core.List.{List}
 use Prim.Native.Nat.{ℕ, _+_, _<_, _≤_}
@@ -21,3 +21,19 @@ module _ (has : ℕ → Bool) (i : ℕ) (xs : List ℕ) (b : Bool) (so-far : any
 
   pub any-ends : length xs ≤ i → false ≡ b
   any-ends h = rw (drop-of-length-le xs h) at so-far
+
+-- a loop that looks at every entry: what was found and what is left answer together
+module _ (has : ℕ → Bool) (i : ℕ) (xs : List ℕ) (any b : Bool) (so-far : any || anyOf has (drop i xs) ≡ b) where
+  pub any-joins : i < length xs → (any || has (getD xs i 0)) || anyOf has (drop (i + 1) xs) ≡ b
+  any-joins h = regroups any (has (getD xs i 0)) (anyOf has (drop (i + 1) xs)) (turn has i xs (anyOf has (drop i xs)) refl h) so-far
+    where
+      regroups : (p q r : Bool) → q || r ≡ anyOf has (drop i xs) → p || anyOf has (drop i xs) ≡ b → (p || q) || r ≡ b
+      regroups true q r e f = f
+      regroups false q r e f = e ∙ f
+
+  pub any-all : length xs ≤ i → any ≡ b
+  any-all h = ends any (rw (drop-of-length-le xs h) at so-far)
+    where
+      ends : (p : Bool) → p || false ≡ b → p ≡ b
+      ends true e = e
+      ends false e = e

@@ -22,18 +22,17 @@ pub fn reserved(control: u8) -> bool
     control / 4 % 4 != 0
 }
 
-// Whether a reserved bit is set in any cycle of a trace.
+// Whether a reserved bit is set in any cycle of a trace. Every cycle is looked at, so that many are looked at at once.
 pub fn any_reserved(controls: &[u8]) -> bool
     ensures { λ r. ⌜ r ≡ anyOf reservedBits (now (controls .entry)) ⌝ }
 {
+    let mut any = false;
     let mut i = 0;
     while i < controls.len() {
-        if reserved(controls[i]) {
-            return true;
-        }
+        any = any | reserved(controls[i]);
         i += 1;
     }
-    false
+    any
 }
 
 pub fn strb(control: u8) -> u8

@@ -21,9 +21,10 @@ abbrev Counted : Option ℕ → (counted : Bool) → (due : ℕ) → Type 0
 Counted none counted due = counted ≡ false
 Counted (some n) counted due = (counted ≡ true) × (due ≡ afterCounter n)
 
-pub record Follows (trace : ℕ → Sample) (i : ℕ) (w : Watch) : Type 0 where
-  pub previous : Previous trace i (before w)
-  pub counters : Counted (lastCounter trace i) (w .counted) (w .due)
+-- counters are kept where rule seq is judged
+record Follows (seqOn : Bool) (trace : ℕ → Sample) (i : ℕ) (w : Watch) : Type 0 where
+  previous : Previous trace i (before w)
+  counters : seqOn ≡ true → Counted (lastCounter trace i) (w .counted) (w .due)
 
 counted-next : (b : Bool) (n : ℕ) (last : Option ℕ) (counted : Bool) (due : ℕ) → Counted last counted due → Counted (cond b (some n) last) (cond b true counted) (cond b (afterCounter n) due)
 counted-next true n last counted due h = (refl, refl)
@@ -33,15 +34,20 @@ counted-seq : (last : Option ℕ) (counted : Bool) (due n : ℕ) → Counted las
 counted-seq none counted due n h = rw h
 counted-seq (some m) counted due n h = rw (h .0, h .1)
 
-module _ (trace : ℕ → Sample) where
-  pub follows-start : Follows trace 0 start
-  follows-start = record { previous = refl; counters = refl }
+-- rule seq counts only where it is judged
+seq-judged : (seqOn held stable a b : Bool) → (seqOn ≡ true → a ≡ b) → inOrder seqOn held stable a ≡ inOrder seqOn held stable b
+seq-judged true held stable a b h = ap (λ (c : Bool). inOrder true held stable c) (h refl)
+seq-judged false held stable a b h = refl
 
-  pub follows-next : (i : ℕ) (w : Watch) (control word : ℕ) → trace i ≡ sample control word → Follows trace i w → Follows trace (suc i) (next w control word)
+module _ (seqOn : Bool) (trace : ℕ → Sample) where
+  follows-start : Follows seqOn trace 0 start
+  follows-start = record { previous = refl; counters = λ on. refl }
+
+  follows-next : (i : ℕ) (w : Watch) (control word : ℕ) → trace i ≡ sample control word → Follows seqOn trace i w → Follows seqOn trace (suc i) (next seqOn w control word)
   follows-next i w control word e f =
       record {
         previous = rw e;
-        counters = rw e (counted-next (carriesCounter (sample control word)) _ (lastCounter trace i) (w .counted) (w .due) (f .counters));
+        counters = λ on. rw (e, on) (counted-next (carriesCounter (sample control word)) _ (lastCounter trace i) (w .counted) (w .due) (f .counters on));
       }
 
   between-same :
@@ -54,20 +60,19 @@ module _ (trace : ℕ → Sample) where
   seq-same i w h = rw (counted-seq (lastCounter trace i) (w .counted) (w .due) (counter (trace i)) h)
 
   -- the watch breaks the rules that the trace breaks
-  pub rules-same : (i : ℕ) (w : Watch) (seqOn : Bool) → Follows trace i w → rulesAfter w (trace i) seqOn ≡ rules seqOn trace i
-  rules-same i w seqOn f =
+  rules-same : (i : ℕ) (w : Watch) → Follows seqOn trace i w → rulesAfter w (trace i) seqOn ≡ rules seqOn trace i
+  rules-same i w f =
       let held = between-same breaksHeld (λ s now h. rw h) i (before w) (f .previous) in
       let stable = between-same breaksStable (λ s now h. rw h) i (before w) (f .previous) in
-      let sequence = seq-same i w (f .counters) in
       ap (λ (b : Bool). inOrder seqOn b (breaksStable (before w) (trace i)) (breaksSeqAfter w (trace i))) held
       ∙ ap (λ (b : Bool). inOrder seqOn (between breaksHeld trace i) b (breaksSeqAfter w (trace i))) stable
-      ∙ ap (λ (b : Bool). inOrder seqOn (between breaksHeld trace i) (between breaksStable trace i) b) sequence
+      ∙ seq-judged seqOn (between breaksHeld trace i) (between breaksStable trace i) _ _ (λ on. seq-same i w (f .counters on))
 
-module _ (controls words : List ℕ) where
+module _ (seqOn : Bool) (controls words : List ℕ) where
   -- from the start on the watch follows the trace, through every cycle
-  follows : (n : ℕ) → Follows (sampleAt controls words) n (watchAfter start controls words n)
-  follows zero = follows-start _
-  follows (suc n) = follows-next _ n (watchAfter start controls words n) _ _ refl (follows n)
+  follows : (n : ℕ) → Follows seqOn (sampleAt controls words) n (watchAfter seqOn start controls words n)
+  follows zero = follows-start seqOn _
+  follows (suc n) = follows-next seqOn _ n (watchAfter seqOn start controls words n) _ _ refl (follows n)
 
-  pub rules-from-start : (seqOn : Bool) (c : ℕ) → rulesFrom start controls words seqOn c ≡ rules seqOn (sampleAt controls words) c
-  rules-from-start seqOn c = rules-same _ c (watchAfter start controls words c) seqOn (follows c)
+  pub rules-from-start : (c : ℕ) → rulesFrom start controls words seqOn c ≡ rules seqOn (sampleAt controls words) c
+  rules-from-start c = rules-same seqOn _ c (watchAfter seqOn start controls words c) (follows c)

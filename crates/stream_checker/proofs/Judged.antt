@@ -29,7 +29,7 @@ use Rattle.stream_checker.proofs.Follows.{rules-from-start}
 pub record SoFar (w : Watch) (controls words : List ℕ) (seqOn : Bool) (i handshakes : ℕ) (after : Watch) : Type 0 where
   pub nothing : findingBelow (rulesFrom w controls words seqOn) i ≡ clean
   pub counted : handshakes ≡ countBelow (handshakeAt (sampleAt controls words)) i
-  pub watched : after ≡ watchAfter w controls words i
+  pub watched : after ≡ watchAfter seqOn w controls words i
 
 module _ (w : Watch) (controls words : List ℕ) (seqOn : Bool) where
   pub so-far-start : SoFar w controls words seqOn 0 0 w
@@ -48,7 +48,7 @@ module _ (w : Watch) (controls words : List ℕ) (seqOn : Bool) where
 
     pub sight-goes :
         none ≡ firstOf (rulesAfter after (sampleAt controls words i) seqOn) →
-        SoFar w controls words seqOn (i + 1) (handshakes + cond (handshakeAt (sampleAt controls words) i) 1 0) (next after (getD controls i 0) (getD words i 0))
+        SoFar w controls words seqOn (i + 1) (handshakes + cond (handshakeAt (sampleAt controls words) i) 1 0) (next seqOn after (getD controls i 0) (getD words i 0))
     sight-goes e =
         record {
           nothing = goes-on (rulesFrom w controls words seqOn) i (so-far .nothing) (found-there none e);
@@ -79,7 +79,7 @@ pub sight-from-start :
     let sight = sightBelow start controls words seqOn n in
     _≡_ {A = Judgement} (record { verdict = judged (sight .finding); handshakes = sight .handshakes }) (judgedBelow seqOn (sampleAt controls words) n)
 sight-from-start controls words seqOn n =
-    rw (finding-same (rulesFrom start controls words seqOn) (rules seqOn (sampleAt controls words)) (rules-from-start controls words seqOn) n)
+    rw (finding-same (rulesFrom start controls words seqOn) (rules seqOn (sampleAt controls words)) (rules-from-start seqOn controls words) n)
 
 -- a breach lies among the cycles, and there are no more handshakes than cycles
 pub finding-inside : (rules : ℕ → List (Row RuleName)) (n : ℕ) (r : RuleName) (c : ℕ) → findingBelow rules n ≡ broken r c → c < n

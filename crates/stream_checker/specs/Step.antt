@@ -49,24 +49,24 @@ abbrev pub ruleIn : Breach → Option RuleName
 ruleIn Nothing = none
 ruleIn (Of rule) = some (ruleName rule)
 
--- the watch after a cycle
-abbrev pub next : Watch → (control word : ℕ) → Watch
-next w control word =
+-- the watch after a cycle; counters are kept where rule seq is judged
+abbrev pub next : (seqOn : Bool) → Watch → (control word : ℕ) → Watch
+next seqOn w control word =
     record {
       control = control;
       «data» = word;
-      counted = cond (carriesCounter (sample control word)) true (w .counted);
-      due = cond (carriesCounter (sample control word)) (afterCounter (counter (sample control word))) (w .due);
+      counted = cond (seqOn && carriesCounter (sample control word)) true (w .counted);
+      due = cond (seqOn && carriesCounter (sample control word)) (afterCounter (counter (sample control word))) (w .due);
     }
 
 -- the watch after the first n of further cycles
-abbrev pub watchAfter : Watch → (controls words : List ℕ) → ℕ → Watch
-watchAfter w controls words zero = w
-watchAfter w controls words (suc n) = next (watchAfter w controls words n) (getD controls n 0) (getD words n 0)
+abbrev pub watchAfter : (seqOn : Bool) → Watch → (controls words : List ℕ) → ℕ → Watch
+watchAfter seqOn w controls words zero = w
+watchAfter seqOn w controls words (suc n) = next seqOn (watchAfter seqOn w controls words n) (getD controls n 0) (getD words n 0)
 
 -- the rules in each of them
 abbrev pub rulesFrom : Watch → (controls words : List ℕ) → (seqOn : Bool) → ℕ → List (Row RuleName)
-rulesFrom w controls words seqOn c = rulesAfter (watchAfter w controls words c) (sampleAt controls words c) seqOn
+rulesFrom w controls words seqOn c = rulesAfter (watchAfter seqOn w controls words c) (sampleAt controls words c) seqOn
 
 -- What is seen in further cycles: the first breach, and the handshakes and the watch before it; or none, and those at the end.
 pub record Sight : Type 0 where
@@ -81,7 +81,7 @@ sightBelow w controls words seqOn n =
     record {
       finding = finding;
       handshakes = countBelow (handshakeAt (sampleAt controls words)) (cyclesCounted finding n);
-      watch = watchAfter w controls words (cyclesCounted finding n);
+      watch = watchAfter seqOn w controls words (cyclesCounted finding n);
     }
 
 -- what the code found

@@ -129,7 +129,7 @@ pub fn judge_cycles(watch: Watch, control: &[u8], data: &[u32], seq: bool) -> Se
             };
         }
         handshakes = handshakes_with(handshakes, c);
-        watch = watch.next(c, d);
+        watch = watch.next(c, d, seq);
         i += 1;
     }
     Seen {

@@ -25,7 +25,7 @@ pub struct Watch {
     // The cycle before.
     pub control: u8,
     pub data: u32,
-    // Whether a counter was carried, and the counter that is due next.
+    // Whether a counter was carried, where rule seq is judged, and the counter that is due next.
     pub counted: bool,
     pub due: u32,
 }
@@ -130,11 +130,11 @@ impl Watch {
         }
     }
 
-    // The watch after the next cycle.
-    pub(crate) fn next(self, control: u8, data: u32) -> Watch
-        ensures { λ r. ⌜ r ≡ next self control «data» ⌝ }
+    // The watch after the next cycle; counters are kept where rule seq is judged.
+    pub(crate) fn next(self, control: u8, data: u32, seq: bool) -> Watch
+        ensures { λ r. ⌜ r ≡ next seq self control «data» ⌝ }
     {
-        if carries_counter(control) {
+        if seq & carries_counter(control) {
             return Watch {
                 control,
                 data,
