@@ -36,10 +36,10 @@ abbrev isBroken : RuleName → (cycle handshakes : ℕ) → Answer
 isBroken rule cycle handshakes = judged (record { verdict = written.judged (broken rule cycle); handshakes = handshakes }) false
 
 -- the two columns of a trace
-abbrev firsts : List (ℕ × ℕ) → List ℕ
+abbrev pub firsts : List (ℕ × ℕ) → List ℕ
 firsts cycles = map (λ c. c .0) cycles
 
-abbrev seconds : List (ℕ × ℕ) → List ℕ
+abbrev pub seconds : List (ℕ × ℕ) → List ℕ
 seconds cycles = map (λ c. c .1) cycles
 
 abbrev memAnswer : mem-checker.Answer → Answer

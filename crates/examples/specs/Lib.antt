@@ -1,2 +1,4 @@
 -- The worked examples that are shown about the definitions.
 pub mod Bench
+pub mod Bursts
+pub mod Records

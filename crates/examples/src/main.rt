@@ -1,8 +1,11 @@
-// Runs the Run examples of document 01, "Bench examples": the depths of a FIFO and the length of a trace that are accepted.
+// Runs the Run examples of document 01, "Bench examples": the depths of a FIFO and the length of a trace that are accepted; and, for
+// request T-05, bursts longer than a trace.
 //
-// P1 to P12 are shown in `specs/Bench.antt`.
+// P1 to P12 are shown in `specs/Bench.antt`, and cut into bursts in `specs/Bursts.antt`.
 use fifo::Fifo;
 use libc::STDOUT_FILENO;
+use monitor::MAX_SEEN;
+use monitor::Monitor;
 use signals::MAX_CYCLES;
 use signals::Outcome;
 use signals::Refusal;
@@ -55,6 +58,20 @@ fn run_memory(control: &[u8], words: &[u32]) {
     }
 }
 
+// Feeds a burst to a monitor that has seen so many cycles, none of them a handshake or a stall.
+fn run_burst(seen: u32, control: &[u8], data: &[u32]) {
+    io::write_all(STDOUT_FILENO, b"seen ");
+    io::print_decimal(STDOUT_FILENO, seen as u64);
+    print_case(b", burst cycles ", control.len());
+    let mut monitor = Monitor::fresh(false);
+    monitor.cycles = seen;
+    let outcome = monitor.fed(control, data).outcome;
+    match outcome {
+        Outcome::Accepted => print_accepted(),
+        Outcome::Refused(why) => print_refused(why),
+    }
+}
+
 fn main() {
     run_depth(2);
     run_depth(16);
@@ -67,4 +84,8 @@ fn main() {
     run_stream(&control, &words);
     run_memory(&control[..MAX_CYCLES], &words[..MAX_CYCLES]);
     run_memory(&control, &words);
+    run_burst(0, &control, &words);
+    run_burst(MAX_SEEN - TOO_MANY as u32, &control, &words);
+    run_burst(MAX_SEEN - MAX_CYCLES as u32, &control, &words);
+    run_burst(MAX_SEEN, &control[..0], &words[..0]);
 }
