@@ -36,10 +36,27 @@ pub struct MemAnswer {
 }
 
 #[repr(C)]
-#[derive(Clone, Copy, PartialEq, Eq, Debug)]
+#[derive(Clone, Copy, PartialEq, Eq, Hash, Debug)]
 pub struct Payload {
     pub data: u32,
     pub strb: u8,
+}
+
+/// The record of a stream that is checked in bursts: whether seq is on, the cycles seen, the verdict with its rule and cycle and
+/// the handshakes, and what the next cycle is judged by: what stalled in the last one, and the counter that is due.
+#[repr(C)]
+#[derive(Clone, Copy, PartialEq, Eq, Hash, Debug)]
+pub struct Monitor {
+    pub seq: bool,
+    pub cycles: u32,
+    pub verdict: u8,
+    pub rule: u8,
+    pub cycle: u32,
+    pub handshakes: u32,
+    pub stalled: bool,
+    pub payload: Payload,
+    pub counted: bool,
+    pub due: u32,
 }
 
 /// A FIFO as it is kept: `count` payloads in the slots from `oldest` on, around the end at `depth`.

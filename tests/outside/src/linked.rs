@@ -32,6 +32,14 @@ extern "C" {
         r_data: *const u32,
         r_datas: usize,
     ) -> MemAnswer;
+    fn floealder_monitor_fresh(seq: bool) -> Monitor;
+    fn floealder_monitor_feed(
+        record: *mut Monitor,
+        control: *const u8,
+        controls: usize,
+        data: *const u32,
+        datas: usize,
+    ) -> u8;
     fn floealder_fifo_new(depth: usize) -> New<Fifo>;
     fn floealder_fifo_step(
         fifo: Fifo,
@@ -128,6 +136,23 @@ pub fn check_mem_decoupled(t: &Trace) -> MemAnswer {
             t.data.len(),
             t.r_data.as_ptr(),
             t.r_data.len(),
+        )
+    }
+}
+
+pub fn monitor_fresh(seq: bool) -> Monitor {
+    unsafe { floealder_monitor_fresh(seq) }
+}
+
+/// The number of the burst's refusal, 0 where it is accepted.
+pub fn monitor_feed(record: &mut Monitor, control: &[u8], data: &[u32]) -> u8 {
+    unsafe {
+        floealder_monitor_feed(
+            record,
+            control.as_ptr(),
+            control.len(),
+            data.as_ptr(),
+            data.len(),
         )
     }
 }

@@ -71,10 +71,21 @@ pub fn same<T: PartialEq + std::fmt::Debug>(what: &str, got: &T, want: &T) -> Re
 
 /// Fails, with the seed, where a comparison differs, and where the kinds of answers are not those that the inputs should reach.
 pub fn agree(cases: u64, kinds: &[&str], compare: impl Fn(&Random) -> Compared) {
+    agree_in_all(cases, kinds, |random| {
+        compare(random).map(|kind| BTreeSet::from([kind]))
+    });
+}
+
+/// The same where one random case has answers of several kinds.
+pub fn agree_in_all(
+    cases: u64,
+    kinds: &[&str],
+    compare: impl Fn(&Random) -> Result<BTreeSet<String>, String>,
+) {
     let mut reached = BTreeSet::new();
     for seed in 0..cases {
         match compare(&Random::new(seed)) {
-            Ok(kind) => reached.insert(kind),
+            Ok(kinds) => reached.extend(kinds),
             Err(difference) => panic!("seed {seed}: {difference}"),
         };
     }

@@ -1,6 +1,7 @@
-//! Random FIFOs and chains as they are kept: well-formed ones, with anything in what is unused, and damaged ones.
+//! Random FIFOs, chains and records as they are kept: well-formed ones, with anything in what is unused, and damaged ones.
 
-use crate::answers::{Chain, Fifo, Payload, MAX_DEPTH, MAX_FIFOS};
+use crate::answers::{Chain, Fifo, Monitor, Payload, MAX_DEPTH, MAX_FIFOS};
+use crate::models::monitor;
 use crate::random::Random;
 
 pub fn legal_payload(random: &Random) -> Payload {
@@ -97,4 +98,33 @@ pub fn any_chain(random: &Random) -> Chain {
         }
     }
     chain
+}
+
+/// A record at the start of a stream: fresh, or after so many idle cycles that it may see few more.
+pub fn started_monitor(random: &Random) -> Monitor {
+    let mut record = monitor::fresh(random.coin());
+    if random.once_in(6) {
+        record.cycles = u32::MAX - random.word() % 60;
+    }
+    record
+}
+
+/// Changes one field of a record, numbers mostly to where a test of its form begins.
+pub fn damage_monitor(random: &Random, record: &mut Monitor) {
+    let about = random.pick(&[record.cycles, record.cycle, record.handshakes, 1]);
+    let near = about.wrapping_sub(1).wrapping_add(random.word() % 3);
+    let number = random.pick(&[near, near, near, random.word()]);
+    match random.below(11) {
+        0 => record.seq = !record.seq,
+        1 => record.cycles = number,
+        2 => record.verdict = random.pick(&[0, 1, 2, 3, random.byte()]),
+        3 => record.rule = random.pick(&[0, 2, 3, 4, 100, 101, random.byte()]),
+        4 => record.cycle = number,
+        5 => record.handshakes = number,
+        6 => record.stalled = !record.stalled,
+        7 => record.payload.data = random.pick(&[0, 1, random.word()]),
+        8 => record.payload.strb = random.pick(&[0, 1, 15, 16, random.byte()]),
+        9 => record.counted = !record.counted,
+        _ => record.due = random.pick(&[0, 1, 65_535, 65_536, random.word()]),
+    }
 }

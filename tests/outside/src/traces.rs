@@ -112,6 +112,35 @@ pub fn stream(random: &Random) -> (Vec<u8>, Vec<u32>) {
     (control, data)
 }
 
+/// A part of a stream's trace, as it is fed to a record.
+pub type Burst = (Vec<u8>, Vec<u32>);
+
+/// A stream's trace cut anywhere into bursts, empty ones among them. The last is what one side is longer than the other.
+pub fn cut(random: &Random, control: &[u8], data: &[u32]) -> Vec<Burst> {
+    let most = random.pick(&[1, 2, 6, 40, 3_000, 100_000]);
+    let both = control.len().min(data.len());
+    let mut bursts = Vec::new();
+    let mut at = 0;
+    while at < both {
+        let end = both.min(at + random.below(most + 1));
+        bursts.push((control[at..end].to_vec(), data[at..end].to_vec()));
+        at = end;
+    }
+    bursts.push((control[both..].to_vec(), data[both..].to_vec()));
+    bursts
+}
+
+/// Makes a burst one that is refused: of two lengths, or with a reserved bit at any place.
+pub fn spoil(random: &Random, (control, data): &mut Burst) {
+    let length = control.len();
+    match random.below(4) {
+        0 => control.push(random.byte()),
+        1 => data.push(random.word()),
+        _ if length == 0 => data.push(0),
+        _ => control[random.below(length)] |= random.pick(&[4, 8, 12]),
+    }
+}
+
 /// A clean memory trace of both protocols, or of HWPE-Mem alone.
 fn clean_memory(random: &Random, cycles: usize) -> Trace {
     let one_way = random.coin().then(|| random.coin());

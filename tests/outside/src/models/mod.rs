@@ -1,10 +1,11 @@
-//! Plain Rust models of every call, written from document 01 and from nothing else.
+//! Plain Rust models of every call, written from document 01 with its requests and from nothing else.
 
 pub mod addressgen;
 pub mod bench_text;
 pub mod chain;
 pub mod fifo;
 pub mod memory;
+pub mod monitor;
 pub mod mux;
 pub mod stream;
 pub mod strobes;

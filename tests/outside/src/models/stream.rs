@@ -21,8 +21,12 @@ fn refused(number: u8) -> StreamAnswer {
 }
 
 /// A handshake carries a counter where the strobes of bytes 0 and 1 are both 1.
+fn carries_counter(control: u8) -> bool {
+    control & 0x30 == 0x30
+}
+
 pub fn check_stream(control: &[u8], data: &[u32], seq: bool) -> StreamAnswer {
-    check_stream_by(control, data, seq, |control| control & 0x30 == 0x30)
+    check_stream_by(control, data, seq, carries_counter)
 }
 
 /// The same with another test, of its control byte, for whether a handshake carries a counter.
@@ -42,6 +46,21 @@ pub fn check_stream_by(
     if control.iter().any(|c| c & 0b1100 != 0) {
         return refused(2);
     }
+    judged_by(control, data, seq, carries)
+}
+
+/// The verdict on a legal trace of any length.
+pub fn judged(control: &[u8], data: &[u32], seq: bool) -> StreamAnswer {
+    judged_by(control, data, seq, carries_counter)
+}
+
+fn judged_by(
+    control: &[u8],
+    data: &[u32],
+    seq: bool,
+    carries: impl Fn(u8) -> bool,
+) -> StreamAnswer {
+    let n = control.len();
     let valid = |c: usize| control[c] & 1 != 0;
     let ready = |c: usize| control[c] & 2 != 0;
     let payload = |c: usize| (control[c] >> 4, data[c]);

@@ -6,6 +6,8 @@ mod chain;
 mod fields;
 mod fifo;
 mod memory;
+mod monitor;
+mod monitor_records;
 mod mux;
 mod stream;
 mod strobes;

@@ -1,6 +1,8 @@
 //! The comparisons can fail: each tells a call apart that is wrong in one thing.
 
-use crate::{addressgen, bench_text, chain, fifo, memory, mux, stream, strobes};
+use crate::{addressgen, bench_text, chain, fifo, memory, monitor, mux, stream, strobes};
+use outside::answers::{Monitor, BROKEN};
+use outside::models::fifo::NOTHING;
 use outside::random::{differ, Compared, Random};
 use outside::{linked, models, states};
 
@@ -157,4 +159,103 @@ fn a_last_line_feed_overlooked() {
             linked::report(text.strip_suffix(b"\n").unwrap_or(text), out)
         })
     });
+}
+
+/// A wrong feed differs from the right one after a burst, and in what its record says in the end.
+fn feed_differs(wrong: fn(&mut Monitor, &[u8], &[u32]) -> u8) {
+    differs(|random| monitor::compare(random, wrong).map(|kinds| kinds.len().to_string()));
+    differs(|random| monitor::compare_end(random, wrong));
+}
+
+#[test]
+fn a_stall_forgotten_at_a_cut() {
+    feed_differs(|record, control, data| {
+        let refusal = linked::monitor_feed(record, control, data);
+        (record.stalled, record.payload) = (false, NOTHING);
+        refusal
+    });
+}
+
+#[test]
+fn a_counter_forgotten_at_a_cut() {
+    feed_differs(|record, control, data| {
+        let refusal = linked::monitor_feed(record, control, data);
+        (record.counted, record.due) = (false, 0);
+        refusal
+    });
+}
+
+#[test]
+fn a_refused_burst_counted() {
+    feed_differs(|record, control, data| {
+        let refusal = linked::monitor_feed(record, control, data);
+        if refusal != 0 {
+            record.cycles = record.cycles.saturating_add(control.len() as u32);
+        }
+        refusal
+    });
+}
+
+#[test]
+fn a_refused_burst_fed_up_to_its_reserved_bit() {
+    feed_differs(|record, control, data| {
+        let refusal = linked::monitor_feed(record, control, data);
+        if refusal == 2 {
+            let legal = control.split(|c| c & 0b1100 != 0).next().unwrap();
+            linked::monitor_feed(record, legal, &data[..legal.len()]);
+        }
+        refusal
+    });
+}
+
+#[test]
+fn a_broken_record_broken_again() {
+    feed_differs(|record, control, data| {
+        let mut anew = linked::monitor_fresh(record.seq);
+        anew.cycles = record.cycles;
+        let was = record.verdict;
+        let refusal = linked::monitor_feed(record, control, data);
+        linked::monitor_feed(&mut anew, control, data);
+        if (refusal, was, anew.verdict) == (0, BROKEN, BROKEN) {
+            *record = anew;
+        }
+        refusal
+    });
+}
+
+#[test]
+fn a_damaged_record_accepted() {
+    let wrong: [fn(&mut Monitor); 3] = [
+        |record| record.payload.strb &= 15,
+        |record| record.due %= 65_536,
+        |record| record.handshakes = record.handshakes.min(record.cycles),
+    ];
+    for mend in wrong {
+        differs(|random| {
+            monitor::compare_damaged(random, |record, control, data| {
+                mend(record);
+                linked::monitor_feed(record, control, data)
+            })
+        });
+    }
+}
+
+/// A ground for refusal that is tried before all others.
+type Ground = fn(&Monitor, &[u8]) -> Option<u8>;
+
+#[test]
+fn refusals_in_another_order() {
+    let wrong: [Ground; 3] = [
+        |_, control| control.iter().any(|c| c & 0b1100 != 0).then_some(2),
+        |record, control| (control.len() > (u32::MAX - record.cycles) as usize).then_some(3),
+        |record, _| (!models::monitor::legal(record)).then_some(6),
+    ];
+    for first in wrong {
+        differs(|random| {
+            monitor::compare_damaged(random, |record, control, data| {
+                let refusal = first(record, control);
+                refusal.unwrap_or_else(|| linked::monitor_feed(record, control, data))
+            })
+        });
+    }
 }

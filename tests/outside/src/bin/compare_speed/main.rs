@@ -10,11 +10,15 @@ use outside::models::fifo::Stage;
 use outside::random::Random;
 use outside::traces::drawn_stream;
 use plain::{ByComparison, ByRemainder};
+use std::cell::Cell;
 use std::hint::black_box;
 use std::time::{Duration, Instant};
 
 const CYCLES: usize = 65_536;
 const REPETITIONS: usize = 41;
+
+/// So many random traces are judged in turn.
+const TRACES: usize = 16;
 
 /// The chains that are timed, by the depths of their FIFOs.
 const LINES: [(&str, &[usize]); 2] = [
@@ -52,61 +56,151 @@ fn compare(what: &str, mut proved: impl FnMut(), mut plain: impl FnMut()) {
     println!("{ratio:5.2}   {what:<57} {:8.1} {:8.1}", rates[0], rates[1]);
 }
 
-/// A trace on which both checkers give the verdict's number, by the rule, at the cycle.
-fn stream(what: &str, (control, data): (&[u8], &[u32]), seq: bool, want: (u8, u8, usize)) {
-    let check = |by: fn(&[u8], &[u32], bool) -> StreamAnswer| {
-        by(black_box(control), black_box(data), black_box(seq))
+type Trace = (Vec<u8>, Vec<u32>);
+
+/// Traces of one kind, each call taking the next: a processor learns the branches of one that is judged again and again.
+struct Turns<'a> {
+    traces: &'a [Trace],
+    next: Cell<usize>,
+}
+
+impl<'a> Turns<'a> {
+    fn new(traces: &'a [Trace]) -> Turns<'a> {
+        let next = Cell::new(0);
+        Turns { traces, next }
+    }
+
+    fn take(&self) -> (&'a [u8], &'a [u32]) {
+        let turn = self.next.get();
+        self.next.set((turn + 1) % self.traces.len());
+        let (control, data) = &self.traces[turn];
+        (black_box(control), black_box(data))
+    }
+}
+
+type Check = fn(&[u8], &[u32], bool) -> StreamAnswer;
+
+/// Traces on each of which both checkers give the verdict's number, by the rule, at the cycle.
+fn stream(what: &str, traces: &[Trace], seq: bool, want: (u8, u8, usize)) {
+    for (control, data) in traces {
+        let answer = linked::check_stream(control, data, seq);
+        assert_eq!(answer, plain::check_stream(control, data, seq));
+        let got = (answer.verdict, answer.rule, answer.cycle as usize);
+        assert_eq!(got, want);
+    }
+    let (proved, plain) = (Turns::new(traces), Turns::new(traces));
+    let check = |by: Check, turns: &Turns| {
+        let (control, data) = turns.take();
+        black_box(by(control, data, black_box(seq)));
     };
-    let answer = check(linked::check_stream);
-    assert_eq!(answer, check(plain::check_stream));
-    let got = (answer.verdict, answer.rule, answer.cycle as usize);
-    assert_eq!(got, want);
     compare(
         what,
-        || {
-            black_box(check(linked::check_stream));
-        },
-        || {
-            black_box(check(plain::check_stream));
-        },
+        || check(linked::check_stream, &proved),
+        || check(plain::check_stream, &plain),
     );
+}
+
+/// Streams that are stalled before their last cycle, so that this one can break rule 4. Their strobes are of all sixteen values.
+fn random_handshakes(random: &Random) -> Vec<Trace> {
+    std::iter::repeat_with(|| drawn_stream(random, CYCLES, 6, 5, 4))
+        .filter(|(control, _)| control[CYCLES - 2] & 3 == 1)
+        .take(TRACES)
+        .collect()
+}
+
+fn always_ready() -> Vec<Trace> {
+    vec![(vec![0xf3; CYCLES], (0..CYCLES as u32).collect())]
 }
 
 fn streams(random: &Random) {
     let clean = (CLEAN, 0, 0);
     let last = CYCLES - 1;
-    // A stream that is stalled before its last cycle, so that this one can break rule 4. Its strobes are of all sixteen values.
-    let (mut control, mut data) = std::iter::repeat_with(|| drawn_stream(random, CYCLES, 6, 5, 4))
-        .find(|(control, _)| control[last - 1] & 3 == 1)
-        .unwrap();
-    stream("stream, random handshakes", (&control, &data), false, clean);
-    stream(
-        "stream, random handshakes, seq on",
-        (&control, &data),
-        true,
-        clean,
-    );
-    control[last] &= !1;
+    let mut traces = random_handshakes(random);
+    stream("stream, random handshakes", &traces, false, clean);
+    stream("stream, random handshakes, seq on", &traces, true, clean);
+    for (control, _) in &mut traces {
+        control[last] &= !1;
+    }
     let broken = "stream, random handshakes, broken at the last cycle";
-    stream(broken, (&control, &data), false, (BROKEN, 4, last));
+    stream(broken, &traces, false, (BROKEN, 4, last));
 
-    control.fill(0xf3);
-    data = (0..CYCLES as u32).collect();
-    stream(
-        "stream, always valid and ready",
-        (&control, &data),
-        false,
-        clean,
-    );
+    let mut traces = always_ready();
+    stream("stream, always valid and ready", &traces, false, clean);
     stream(
         "stream, always valid and ready, seq on",
-        (&control, &data),
+        &traces,
         true,
         clean,
     );
-    data[last] = 0;
+    traces[0].1[last] = 0;
     let broken = "stream, always valid and ready, broken at the last cycle";
-    stream(broken, (&control, &data), true, (BROKEN, SEQ, last));
+    stream(broken, &traces, true, (BROKEN, SEQ, last));
+}
+
+type Feed = fn(&mut Monitor, &[u8], &[u32]) -> u8;
+
+/// A fresh record, fed with a trace in bursts of so many cycles.
+fn fed(feed: Feed, (control, data): (&[u8], &[u32]), seq: bool, burst: usize) -> Monitor {
+    let mut record = linked::monitor_fresh(black_box(seq));
+    for (control, data) in control.chunks(burst).zip(data.chunks(burst)) {
+        assert_eq!(feed(&mut record, control, data), 0);
+    }
+    record
+}
+
+/// The traces that records are fed with, whole and in bursts of 64, and what is timed on each.
+fn records(timed: impl Fn(&str, &[Trace], bool, usize)) {
+    let kinds = [
+        ("random handshakes", random_handshakes(&Random::new(1))),
+        ("always valid and ready", always_ready()),
+    ];
+    for (how, burst) in [("whole", CYCLES), ("in bursts of 64", 64)] {
+        for (kind, traces) in &kinds {
+            for (switch, seq) in [("", false), (", seq on", true)] {
+                let what = format!("record {how}, {kind}{switch}");
+                timed(&what, traces, seq, burst);
+            }
+        }
+    }
+}
+
+/// A record beside the same in plain Rust.
+fn record(what: &str, traces: &[Trace], seq: bool, burst: usize) {
+    for (control, data) in traces {
+        let run = |feed| fed(feed, (control, data), seq, burst);
+        assert_eq!(run(linked::monitor_feed), run(plain::feed));
+    }
+    let (proved, plain) = (Turns::new(traces), Turns::new(traces));
+    let run = |feed: Feed, turns: &Turns| {
+        black_box(fed(feed, turns.take(), seq, burst));
+    };
+    compare(
+        what,
+        || run(linked::monitor_feed, &proved),
+        || run(plain::feed, &plain),
+    );
+}
+
+/// A record beside the checker of the whole trace, both proved.
+fn record_beside_checker(what: &str, traces: &[Trace], seq: bool, burst: usize) {
+    for (control, data) in traces {
+        let fed = fed(linked::monitor_feed, (control, data), seq, burst);
+        let answer = linked::check_stream(control, data, seq);
+        let said = (fed.verdict, fed.rule, fed.cycle, fed.handshakes);
+        let want = (answer.verdict, answer.rule, answer.cycle, answer.handshakes);
+        assert_eq!(said, want);
+    }
+    let (of_record, of_checker) = (Turns::new(traces), Turns::new(traces));
+    compare(
+        what,
+        || {
+            black_box(fed(linked::monitor_feed, of_record.take(), seq, burst));
+        },
+        || {
+            let (control, data) = of_checker.take();
+            black_box(linked::check_stream(control, data, black_box(seq)));
+        },
+    );
 }
 
 /// Offers, and a sink that is ready in two cycles of three.
@@ -245,6 +339,14 @@ fn main() {
         );
     }
     addresses();
+    records(record);
+    println!("\nratio of the time of a record that is fed to that of the checker on the whole trace, both proved;");
+    println!("the aim is 1.1 whole, and 1.5 in bursts of 64\n");
+    println!(
+        "{:5}   {:<57} {:>8} {:>8}",
+        "ratio", "", "record", "checker"
+    );
+    records(record_beside_checker);
     println!("\nratio of the time with a comparison for a place in a ring to plain Rust's with a remainder\n");
     println!(
         "{:5}   {:<57} {:>8} {:>8}",

@@ -2,6 +2,7 @@
 
 use outside::answers::*;
 use outside::models::chain::Offered;
+use outside::models::fifo::NOTHING;
 
 fn answer(verdict: u8, rule: u8, cycle: usize, handshakes: u32) -> StreamAnswer {
     StreamAnswer {
@@ -58,6 +59,90 @@ pub fn check_stream(control: &[u8], data: &[u32], seq: bool) -> StreamAnswer {
         stalled = (valid && !ready).then_some((c >> 4, d));
     }
     answer(CLEAN, 0, 0, handshakes)
+}
+
+/// Whether bursts could have left a record.
+fn is_legal(m: &Monitor) -> bool {
+    let in_place = (m.stalled || m.payload == NOTHING) && (m.counted || m.due == 0);
+    let clean = m.rule == 0
+        && m.cycle == 0
+        && m.handshakes <= m.cycles
+        && !(m.stalled && m.handshakes == m.cycles)
+        && !(m.counted && (!m.seq || m.handshakes == 0));
+    let by_rule = match m.rule {
+        4 | 2 => m.handshakes < m.cycle,
+        SEQ => m.seq && m.handshakes > 0 && m.handshakes <= m.cycle,
+        _ => false,
+    };
+    let broken = m.cycle < m.cycles && !m.stalled && !m.counted && by_rule;
+    let form = match m.verdict {
+        CLEAN => clean,
+        BROKEN => broken,
+        _ => false,
+    };
+    form && in_place && m.payload.strb < 16 && m.due < 65_536
+}
+
+/// A burst fed to a record of any form.
+#[inline(never)]
+pub fn feed(m: &mut Monitor, control: &[u8], data: &[u32]) -> u8 {
+    if control.len() != data.len() {
+        return 1;
+    }
+    if control.len() > (u32::MAX - m.cycles) as usize {
+        return 3;
+    }
+    if !is_legal(m) {
+        return 6;
+    }
+    if control.iter().any(|c| c & 0b1100 != 0) {
+        return 2;
+    }
+    let start = m.cycles;
+    m.cycles += control.len() as u32;
+    if m.verdict == BROKEN {
+        return 0;
+    }
+    let mut handshakes = m.handshakes;
+    let mut due = m.counted.then_some(m.due as u16);
+    let mut stalled = m.stalled.then_some((m.payload.strb, m.payload.data));
+    let mut breach = None;
+    for ((&c, &d), cycle) in control.iter().zip(data).zip(start..) {
+        let valid = c & 1 != 0;
+        let ready = c & 2 != 0;
+        if let Some(before) = stalled {
+            if !valid {
+                breach = Some((4, cycle));
+                break;
+            }
+            if before != (c >> 4, d) {
+                breach = Some((2, cycle));
+                break;
+            }
+        }
+        if valid && ready {
+            if m.seq && c & 0x30 == 0x30 {
+                let counter = d as u16;
+                if due.is_some_and(|due| counter != due) {
+                    breach = Some((SEQ, cycle));
+                    break;
+                }
+                due = Some(counter.wrapping_add(1));
+            }
+            handshakes += 1;
+        }
+        stalled = (valid && !ready).then_some((c >> 4, d));
+    }
+    if let Some((rule, cycle)) = breach {
+        (m.verdict, m.rule, m.cycle) = (BROKEN, rule, cycle);
+        (stalled, due) = (None, None);
+    }
+    m.handshakes = handshakes;
+    m.stalled = stalled.is_some();
+    m.payload = stalled.map_or(NOTHING, |(strb, data)| Payload { data, strb });
+    m.counted = due.is_some();
+    m.due = due.map_or(0, u32::from);
+    0
 }
 
 fn ready(fifo: &Fifo) -> bool {
