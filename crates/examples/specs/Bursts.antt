@@ -6,7 +6,6 @@ use mathlib.Core.List.{List, [], _∷_, map}
 use mathlib.Core.Path.{_≡_, refl}
 use Rattle.monitor.specs.Bursts.{fedBy}
 use Rattle.monitor.specs.Record.{fresh}
-use Rattle.monitor.specs.Step.{brokenAt}
 use Rattle.monitor.specs.Theorems.{Burst, after}
 use Rattle.monitor.specs.declared.Monitor.{Monitor}
 use Rattle.examples.specs.Bench.{firsts, seconds}
@@ -61,6 +60,22 @@ dueNext due cycles handshakes =
       due = due;
     }
 
+-- a broken record, by the rule's number
+abbrev broken : (seqOn : Bool) → (cycles rule cycle handshakes : ℕ) → Monitor
+broken seqOn cycles rule cycle handshakes =
+    record {
+      seq = seqOn;
+      cycles = cycles;
+      verdict = 2;
+      rule = rule;
+      cycle = cycle;
+      handshakes = handshakes;
+      stalled = false;
+      payload = record { «data» = 0; strb = 0 };
+      counted = false;
+      due = 0;
+    }
+
 -- bursts from a fresh record on, and the record that they leave
 pub record Example : Type 0 where
   pub seqOn : Bool
@@ -80,17 +95,17 @@ examples =
     ∷ (false, burst ((0x02, 0x00) ∷ (0xf1, 0x11) ∷ []) ∷ burst ((0xf3, 0x11) ∷ (0xf1, 0x12) ∷ []) ∷ []) leave stalledOn 0x12 15 4 1
     -- P2 whole, cut through both stalls: broken, rule 2, at 4, handshakes 1
     ∷ (false, burst ((0x02, 0x00) ∷ (0xf1, 0x11) ∷ []) ∷ burst ((0xf3, 0x11) ∷ (0xf1, 0x12) ∷ []) ∷ burst ((0xf3, 0x13) ∷ []) ∷ []) leave
-    brokenAt false 5 2 4 1
+    broken false 5 2 4 1
     -- P3 cut between its two cycles, with an empty burst there: rule 4 at 1
-    ∷ (false, burst ((0xf1, 0x11) ∷ []) ∷ burst [] ∷ burst ((0xf0, 0x12) ∷ []) ∷ []) leave brokenAt false 2 4 1 0
+    ∷ (false, burst ((0xf1, 0x11) ∷ []) ∷ burst [] ∷ burst ((0xf0, 0x12) ∷ []) ∷ []) leave broken false 2 4 1 0
     -- P3, and three handshakes after the breach: they add to the cycles seen and to nothing else
-    ∷ (false, burst ((0xf1, 0x11) ∷ (0xf0, 0x12) ∷ []) ∷ burst ((0xf3, 1) ∷ (0xf3, 1) ∷ (0xf3, 1) ∷ []) ∷ []) leave brokenAt false 5 4 1 0
+    ∷ (false, burst ((0xf1, 0x11) ∷ (0xf0, 0x12) ∷ []) ∷ burst ((0xf3, 1) ∷ (0xf3, 1) ∷ (0xf3, 1) ∷ []) ∷ []) leave broken false 5 4 1 0
     -- P4 cut between its two cycles: 0 is due after 65,535, and after it 1
     ∷ (true, burst ((0xf3, 65535) ∷ []) ∷ burst ((0xf3, 0) ∷ []) ∷ []) leave dueNext 1 2 2
     -- P4 with a handshake of strb 14 between, cut around it
     ∷ (true, burst ((0xf3, 65535) ∷ []) ∷ burst ((0xe3, 5) ∷ []) ∷ burst ((0xf3, 0) ∷ []) ∷ []) leave dueNext 1 3 3
     -- P5 cut between its two cycles: seq at the second
-    ∷ (true, burst ((0xf3, 7) ∷ []) ∷ burst ((0xf3, 7) ∷ []) ∷ []) leave brokenAt true 2 100 1 1
+    ∷ (true, burst ((0xf3, 7) ∷ []) ∷ burst ((0xf3, 7) ∷ []) ∷ []) leave broken true 2 100 1 1
     -- a handshake of strb 14 alone carries no counter: it counts, and none is due
     ∷ (true, burst ((0xe3, 5) ∷ []) ∷ []) leave clean true 1 1
     -- P4 with refused bursts between its cycles, by reserved bits and by lengths that differ: they change nothing

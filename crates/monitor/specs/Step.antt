@@ -5,6 +5,7 @@ use mathlib.Core.Option.{Option, none, some}
 use Rattle.signals.specs.Numbers.{ruleNumber}
 use Rattle.signals.specs.Payloads.{zeros}
 use Rattle.signals.specs.Written.{RuleName}
+use Rattle.signals.specs.declared.Payload.{Payload}
 use Rattle.signals.specs.declared.Outcome.{Outcome}
 use Rattle.signals.specs.declared.Outcome.the-variants.{Accepted, Refused}
 use Rattle.signals.specs.declared.Refusal.{Refusal}
@@ -28,6 +29,10 @@ watchOf m =
       due = m .due;
     }
 
+-- what a record keeps of the last cycle: its payload if it stalled
+abbrev pub payloadKept : Watch → Payload
+payloadKept w = cond (stalled (before w)) (before w .payload) zeros
+
 -- the clean record of a watch
 abbrev pub kept : (seqOn : Bool) → (cycles handshakes : ℕ) → Watch → Monitor
 kept seqOn cycles handshakes w =
@@ -39,7 +44,7 @@ kept seqOn cycles handshakes w =
       cycle = 0;
       handshakes = handshakes;
       stalled = stalled (before w);
-      payload = cond (stalled (before w)) (before w .payload) zeros;
+      payload = payloadKept w;
       counted = w .counted;
       due = w .due;
     }

@@ -9,7 +9,7 @@ ghost use Rattle.stream_checker.specs.Written.{ruleName};
 ghost use Rattle.monitor.specs.Record.{legal};
 ghost use Rattle.monitor.specs.Cycle.{afterCycles};
 ghost use Rattle.monitor.specs.Bursts.{maxSeen};
-ghost use Rattle.monitor.specs.Step.{watchOf, kept, brokenAt, stillBroken, brokenIn};
+ghost use Rattle.monitor.specs.Step.{watchOf, payloadKept, kept, brokenAt, stillBroken, brokenIn};
 use crate::Monitor;
 use signals::BROKEN;
 use signals::CLEAN;
@@ -33,6 +33,7 @@ fn last_control(m: Monitor) -> u8
     }
 }
 
+// What the first cycle of a burst is judged by.
 fn watch_of(m: Monitor) -> Watch
     requires { ⌜ m .payload .strb ≤ maxStrb ⌝ }
     ensures { λ r. ⌜ r ≡ watchOf m ⌝ }
@@ -47,7 +48,7 @@ fn watch_of(m: Monitor) -> Watch
 
 // What is kept of the last cycle: its payload if it stalled.
 fn payload_kept(watch: Watch) -> Payload
-    ensures { λ r. ⌜ r ≡ kept true 0 0 watch .payload ⌝ }
+    ensures { λ r. ⌜ r ≡ payloadKept watch ⌝ }
 {
     if stalled(watch.control) {
         Payload {
@@ -59,6 +60,7 @@ fn payload_kept(watch: Watch) -> Payload
     }
 }
 
+// The record of cycles that break no rule.
 fn clean_record(seq: bool, cycles: u32, handshakes: u32, watch: Watch) -> Monitor
     ensures { λ r. ⌜ r ≡ kept seq cycles handshakes watch ⌝ }
 {
@@ -76,6 +78,7 @@ fn clean_record(seq: bool, cycles: u32, handshakes: u32, watch: Watch) -> Monito
     }
 }
 
+// A record with a breach, which keeps nothing for the next cycle.
 fn broken_record(seq: bool, cycles: u32, rule: u8, cycle: u32, handshakes: u32) -> Monitor
     ensures { λ r. ⌜ r ≡ brokenAt seq cycles rule cycle handshakes ⌝ }
 {
@@ -114,6 +117,7 @@ fn broken_in(m: Monitor, cycles: u32, handshakes: u32, rule: Rule, c: usize) -> 
     )
 }
 
+// The record after a burst.
 pub(crate) fn after(m: Monitor, control: &[u8], data: &[u32]) -> Monitor
     requires { ⌜ (length (now control) ≡ length (now «data»)) × (m .cycles + length (now control) ≤ maxSeen) × (legal m ≡ true) ⌝ }
     ensures { λ r. ⌜ r ≡ afterCycles m (sampleAt (now (control .entry)) (now («data» .entry))) (length (now (control .entry))) ⌝ }

@@ -1,8 +1,8 @@
 // The stream checker fed in bursts: a small record, lent and updated, that says what the checker says of the whole trace.
 //
 // Writes out request T-05 over "Stream rules" of document 01. A burst is judged by the loop of `stream_checker`.
-mod burst;
-mod form;
+mod burst; // burst.rt: the record after a burst
+mod form; // form.rt: the tests of refusal 6
 
 ghost use mathlib.Core.Path.{_≡_};
 ghost use Prim.Native.Nat.{_+_};
