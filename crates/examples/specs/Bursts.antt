@@ -9,72 +9,24 @@ use Rattle.monitor.specs.Record.{fresh}
 use Rattle.monitor.specs.Theorems.{Burst, after}
 use Rattle.monitor.specs.declared.Monitor.{Monitor}
 use Rattle.examples.specs.Bench.{firsts, seconds}
+use Rattle.examples.specs.Parts.{seen, clean, broken, stall, noStall, nextDue, noneDue, with}
 
 -- a burst by its cycles: control byte and data of each
 abbrev burst : List (ℕ × ℕ) → Burst
 burst cycles = record { controls = firsts cycles; words = seconds cycles }
 
--- a clean record with nothing kept of the last cycle, one whose last cycle stalled, and one in which a counter is due
-abbrev clean : (seqOn : Bool) → (cycles handshakes : ℕ) → Monitor
-clean seqOn cycles handshakes =
-    record {
-      seq = seqOn;
-      cycles = cycles;
-      verdict = 1;
-      rule = 0;
-      cycle = 0;
-      handshakes = handshakes;
-      stalled = false;
-      payload = record { «data» = 0; strb = 0 };
-      counted = false;
-      due = 0;
-    }
+-- a clean record with nothing kept, one whose last cycle stalled, one in which a counter is due, and a broken one
+abbrev nothingKept : (seqOn : Bool) → (cycles handshakes : ℕ) → Monitor
+nothingKept seqOn cycles handshakes = with (seen seqOn cycles handshakes) clean (noStall 0 0) (noneDue 0)
 
 abbrev stalledOn : (word strb cycles handshakes : ℕ) → Monitor
-stalledOn word strb cycles handshakes =
-    record {
-      seq = false;
-      cycles = cycles;
-      verdict = 1;
-      rule = 0;
-      cycle = 0;
-      handshakes = handshakes;
-      stalled = true;
-      payload = record { «data» = word; strb = strb };
-      counted = false;
-      due = 0;
-    }
+stalledOn word strb cycles handshakes = with (seen false cycles handshakes) clean (stall word strb) (noneDue 0)
 
 abbrev dueNext : (due cycles handshakes : ℕ) → Monitor
-dueNext due cycles handshakes =
-    record {
-      seq = true;
-      cycles = cycles;
-      verdict = 1;
-      rule = 0;
-      cycle = 0;
-      handshakes = handshakes;
-      stalled = false;
-      payload = record { «data» = 0; strb = 0 };
-      counted = true;
-      due = due;
-    }
+dueNext due cycles handshakes = with (seen true cycles handshakes) clean (noStall 0 0) (nextDue due)
 
--- a broken record, by the rule's number
-abbrev broken : (seqOn : Bool) → (cycles rule cycle handshakes : ℕ) → Monitor
-broken seqOn cycles rule cycle handshakes =
-    record {
-      seq = seqOn;
-      cycles = cycles;
-      verdict = 2;
-      rule = rule;
-      cycle = cycle;
-      handshakes = handshakes;
-      stalled = false;
-      payload = record { «data» = 0; strb = 0 };
-      counted = false;
-      due = 0;
-    }
+abbrev brokenBy : (rule : ℕ) → (seqOn : Bool) → (cycles cycle handshakes : ℕ) → Monitor
+brokenBy rule seqOn cycles cycle handshakes = with (seen seqOn cycles handshakes) (broken rule cycle) (noStall 0 0) (noneDue 0)
 
 -- bursts from a fresh record on, and the record that they leave
 pub record Example : Type 0 where
@@ -89,25 +41,25 @@ cut leave expected = record { seqOn = cut .0; bursts = cut .1; expected = expect
 abbrev pub examples : List Example
 examples =
     -- P1 in no burst, and in an empty one: as fresh
-    (false, []) leave clean false 0 0
-    ∷ (false, burst [] ∷ []) leave clean false 0 0
+    (false, []) leave nothingKept false 0 0
+    ∷ (false, burst [] ∷ []) leave nothingKept false 0 0
     -- P2 up to the second stall, cut through the first: the payload is kept
     ∷ (false, burst ((0x02, 0x00) ∷ (0xf1, 0x11) ∷ []) ∷ burst ((0xf3, 0x11) ∷ (0xf1, 0x12) ∷ []) ∷ []) leave stalledOn 0x12 15 4 1
     -- P2 whole, cut through both stalls: broken, rule 2, at 4, handshakes 1
     ∷ (false, burst ((0x02, 0x00) ∷ (0xf1, 0x11) ∷ []) ∷ burst ((0xf3, 0x11) ∷ (0xf1, 0x12) ∷ []) ∷ burst ((0xf3, 0x13) ∷ []) ∷ []) leave
-    broken false 5 2 4 1
+    brokenBy 2 false 5 4 1
     -- P3 cut between its two cycles, with an empty burst there: rule 4 at 1
-    ∷ (false, burst ((0xf1, 0x11) ∷ []) ∷ burst [] ∷ burst ((0xf0, 0x12) ∷ []) ∷ []) leave broken false 2 4 1 0
+    ∷ (false, burst ((0xf1, 0x11) ∷ []) ∷ burst [] ∷ burst ((0xf0, 0x12) ∷ []) ∷ []) leave brokenBy 4 false 2 1 0
     -- P3, and three handshakes after the breach: they add to the cycles seen and to nothing else
-    ∷ (false, burst ((0xf1, 0x11) ∷ (0xf0, 0x12) ∷ []) ∷ burst ((0xf3, 1) ∷ (0xf3, 1) ∷ (0xf3, 1) ∷ []) ∷ []) leave broken false 5 4 1 0
+    ∷ (false, burst ((0xf1, 0x11) ∷ (0xf0, 0x12) ∷ []) ∷ burst ((0xf3, 1) ∷ (0xf3, 1) ∷ (0xf3, 1) ∷ []) ∷ []) leave brokenBy 4 false 5 1 0
     -- P4 cut between its two cycles: 0 is due after 65,535, and after it 1
     ∷ (true, burst ((0xf3, 65535) ∷ []) ∷ burst ((0xf3, 0) ∷ []) ∷ []) leave dueNext 1 2 2
     -- P4 with a handshake of strb 14 between, cut around it
     ∷ (true, burst ((0xf3, 65535) ∷ []) ∷ burst ((0xe3, 5) ∷ []) ∷ burst ((0xf3, 0) ∷ []) ∷ []) leave dueNext 1 3 3
     -- P5 cut between its two cycles: seq at the second
-    ∷ (true, burst ((0xf3, 7) ∷ []) ∷ burst ((0xf3, 7) ∷ []) ∷ []) leave broken true 2 100 1 1
+    ∷ (true, burst ((0xf3, 7) ∷ []) ∷ burst ((0xf3, 7) ∷ []) ∷ []) leave brokenBy 100 true 2 1 1
     -- a handshake of strb 14 alone carries no counter: it counts, and none is due
-    ∷ (true, burst ((0xe3, 5) ∷ []) ∷ []) leave clean true 1 1
+    ∷ (true, burst ((0xe3, 5) ∷ []) ∷ []) leave nothingKept true 1 1
     -- P4 with refused bursts between its cycles, by reserved bits and by lengths that differ: they change nothing
     ∷ (true, burst ((0xf3, 65535) ∷ []) ∷ burst ((0xf3, 9) ∷ (0x04, 0) ∷ []) ∷ record { controls = 0xf3 ∷ []; words = [] } ∷ burst ((0xf3, 0) ∷ []) ∷ []) leave
     dueNext 1 2 2

@@ -1,4 +1,5 @@
 -- The worked examples that are shown about the definitions.
 pub mod Bench
+pub mod Parts
 pub mod Bursts
 pub mod Records

@@ -6,65 +6,7 @@ use mathlib.Core.List.{List, [], _∷_, map}
 use mathlib.Core.Path.{_≡_, refl}
 use Rattle.monitor.specs.Record.{legal}
 use Rattle.monitor.specs.declared.Monitor.{Monitor}
-
--- the four parts of a record: what was seen, the breach, the last cycle, and the counter due
-pub record Seen : Type 0 where
-  pub seqOn : Bool
-  pub cycles : ℕ
-  pub handshakes : ℕ
-
-pub record Breach : Type 0 where
-  pub verdict : ℕ
-  pub rule : ℕ
-  pub cycle : ℕ
-
-pub record Last : Type 0 where
-  pub stalled : Bool
-  pub word : ℕ
-  pub strb : ℕ
-
-pub record Due : Type 0 where
-  pub counted : Bool
-  pub due : ℕ
-
-abbrev seen : Bool → (cycles handshakes : ℕ) → Seen
-seen seqOn cycles handshakes = record { seqOn = seqOn; cycles = cycles; handshakes = handshakes }
-
-abbrev verdict : (verdict rule cycle : ℕ) → Breach
-verdict v rule cycle = record { verdict = v; rule = rule; cycle = cycle }
-
-abbrev clean : Breach
-clean = verdict 1 0 0
-
-abbrev broken : (rule cycle : ℕ) → Breach
-broken rule cycle = verdict 2 rule cycle
-
-abbrev stall : (word strb : ℕ) → Last
-stall word strb = record { stalled = true; word = word; strb = strb }
-
-abbrev noStall : (word strb : ℕ) → Last
-noStall word strb = record { stalled = false; word = word; strb = strb }
-
-abbrev nextDue : ℕ → Due
-nextDue due = record { counted = true; due = due }
-
-abbrev noneDue : ℕ → Due
-noneDue due = record { counted = false; due = due }
-
-abbrev with : Seen → Breach → Last → Due → Monitor
-with s b l d =
-    record {
-      seq = s .seqOn;
-      cycles = s .cycles;
-      verdict = b .verdict;
-      rule = b .rule;
-      cycle = b .cycle;
-      handshakes = s .handshakes;
-      stalled = l .stalled;
-      payload = record { «data» = l .word; strb = l .strb };
-      counted = d .counted;
-      due = d .due;
-    }
+use Rattle.examples.specs.Parts.{seen, verdict, clean, broken, stall, noStall, nextDue, noneDue, with}
 
 -- a record that one test refuses, and the same mended
 pub record Example : Type 0 where
