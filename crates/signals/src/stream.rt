@@ -1,7 +1,7 @@
 // The fields of a stream's control byte.
 ghost use mathlib.Core.Path.{_≡_};
 ghost use Rattle.signals.specs.Refusals.{anyOf};
-ghost use Rattle.signals.specs.Stream.{validBit, readyBit, reservedBits, strbBits};
+ghost use Rattle.signals.specs.Stream.{validBit, readyBit, clearBit, reservedBit, strbBits};
 
 pub fn valid(control: u8) -> bool
     ensures { λ r. ⌜ r ≡ validBit control ⌝ }
@@ -15,16 +15,22 @@ pub fn ready(control: u8) -> bool
     control / 2 % 2 == 1
 }
 
-// Whether a bit is set that has to be zero.
-pub fn reserved(control: u8) -> bool
-    ensures { λ r. ⌜ r ≡ reservedBits control ⌝ }
+pub fn clear(control: u8) -> bool
+    ensures { λ r. ⌜ r ≡ clearBit control ⌝ }
 {
-    control / 4 % 4 != 0
+    control / 4 % 2 == 1
 }
 
-// Whether a reserved bit is set in any cycle of a trace. Every cycle is looked at, so that many are looked at at once.
+// Whether the bit is set that has to be zero.
+pub fn reserved(control: u8) -> bool
+    ensures { λ r. ⌜ r ≡ reservedBit control ⌝ }
+{
+    control / 8 % 2 == 1
+}
+
+// Whether the reserved bit is set in any cycle of a trace. Every cycle is looked at, so that many are looked at at once.
 pub fn any_reserved(controls: &[u8]) -> bool
-    ensures { λ r. ⌜ r ≡ anyOf reservedBits (now (controls .entry)) ⌝ }
+    ensures { λ r. ⌜ r ≡ anyOf reservedBit (now (controls .entry)) ⌝ }
 {
     let mut any = false;
     let mut i = 0;

@@ -1,5 +1,5 @@
--- Rule seq by index. By induction `lastCounter` is the counter of the last cycle that carried one (`LastSays`), and there is only one
--- such cycle. Assumes nothing.
+-- Rule seq by index. By induction `lastCounter` is the counter of the last cycle that carried one since a clear cycle (`LastSays`), and
+-- there is only one such cycle. Assumes nothing.
 use Prim.Native.Nat.{ℕ, zero, suc, _<_}
 use native.Mathlib.Omega.{arith}
 use mathlib.Core.Bool.{true, false, not, _&&_, false≢true}
@@ -8,7 +8,7 @@ use mathlib.Core.Option.{Option, none, some}
 use mathlib.Core.Path.{_≡_, refl, sym, _∙_, ap}
 use lib.Dec.{eqb}
 use borrow.Author.Tests.{eq-eqb, ne-eqb}
-use Rattle.signals.specs.Stream.{Sample}
+use Rattle.signals.specs.Stream.{Sample, clearCycle}
 use Rattle.signals.proofs.Bools.{either, both, not-both}
 use Rattle.signals.proofs.Judging.{order-of, before-or-last}
 use Rattle.stream_checker.specs.Rules.{carriesCounter, counter, afterCounter, lastCounter, outOfSeq}
@@ -29,13 +29,19 @@ module _ (trace : ℕ → Sample) where
     has : counter (trace at) ≡ n
 
   abbrev LastSays : ℕ → Option ℕ → Type 0
-  LastSays c none = (a : ℕ) → a < c → carriesCounter (trace a) ≡ false
+  LastSays c none = (b : ℕ) → LastCarrier trace c b → ⊥
   LastSays c (some n) = LastHas c n
 
-  -- a cycle that carries none leaves what was said
-  still : (c : ℕ) (last : Option ℕ) → carriesCounter (trace c) ≡ false → LastSays c last → LastSays (suc c) last
-  still c none f s = λ a h. ⊎-elim (λ l. s a l) (λ q. rw q f) (before-or-last a c h)
-  still c (some n) f s =
+  -- a cycle that carries none, and is no clear cycle, leaves what was said
+  still :
+      (c : ℕ) (last : Option ℕ) → clearCycle (trace c) ≡ false → carriesCounter (trace c) ≡ false → LastSays c last → LastSays (suc c) last
+  still c none u f s = λ b l. s b (record {
+    before = ⊎-elim (λ h. h) (λ q. absurd (not-both _ (l .carries) (rw q f))) (before-or-last b c (l .before));
+    carries = l .carries;
+    later = λ a h g. l .later a h (omega arith);
+    unclear = λ a h g. l .unclear a h (omega arith);
+  })
+  still c (some n) u f s =
       record {
         at = s .at;
         is-last =
@@ -43,21 +49,42 @@ module _ (trace : ℕ → Sample) where
               before = omega (arith, s .is-last .before);
               carries = s .is-last .carries;
               later = λ a h g. ⊎-elim (λ l. s .is-last .later a h l) (λ q. rw q f) (before-or-last a c g);
+              unclear = λ a h g. ⊎-elim (λ l. s .is-last .unclear a h l) (λ q. rw q u) (before-or-last a c g);
             };
         has = s .has;
       }
 
+  -- a cycle that carries one is the last
+  this : (c : ℕ) → carriesCounter (trace c) ≡ true → LastHas (suc c) (counter (trace c))
+  this c t =
+      record {
+        at = c;
+        is-last = record { before = omega arith; carries = t; later = λ a h g. absurd (omega arith); unclear = λ a h g. absurd (omega arith) };
+        has = refl;
+      }
+
+  -- a clear cycle carries none
+  clear-carries : (s : Sample) → clearCycle s ≡ true → carriesCounter s ≡ false
+  clear-carries s t = rw t
+
+  -- behind a clear cycle there is none: it carries none itself, and lies behind every other
+  none-since : (c : ℕ) → clearCycle (trace c) ≡ true → LastSays (suc c) none
+  none-since c t b l =
+      ⊎-elim (λ h. not-both _ t (l .unclear c h (omega arith)))
+      (λ q. not-both _ (l .carries) (ap (λ (a : ℕ). carriesCounter (trace a)) q ∙ clear-carries (trace c) t)) (before-or-last b c (l .before))
+
   says : (c : ℕ) → LastSays c (lastCounter trace c)
-  says zero = λ a h. absurd (omega arith)
-  says (suc c) = ⊎-elim (λ t. rw t (this t)) (λ f. rw f (still c (lastCounter trace c) f (says c))) (either (carriesCounter (trace c)))
+  says zero = λ b l. let h = l .before in omega arith
+  says (suc c) =
+      ⊎-elim (λ t. rw t (none-since c t)) (λ u. ⊎-elim (carried u) (skipped u (says c)) (either (carriesCounter (trace c)))) (either (clearCycle (trace c)))
     where
-      this : carriesCounter (trace c) ≡ true → LastHas (suc c) (counter (trace c))
-      this t =
-          record {
-            at = c;
-            is-last = record { before = omega arith; carries = t; later = λ a h g. absurd (omega arith) };
-            has = refl;
-          }
+      carried : clearCycle (trace c) ≡ false → carriesCounter (trace c) ≡ true → LastSays (suc c) (lastCounter trace (suc c))
+      carried u t = rw (t, u) (this c t)
+
+      skipped :
+          clearCycle (trace c) ≡ false → LastSays c (lastCounter trace c) → carriesCounter (trace c) ≡ false →
+          LastSays (suc c) (lastCounter trace (suc c))
+      skipped u s f = rw (f, u) (still c (lastCounter trace c) u f s)
 
   -- there is one last cycle
   last-same : (c a b : ℕ) → LastCarrier trace c a → LastCarrier trace c b → a ≡ b
@@ -77,7 +104,7 @@ module _ (trace : ℕ → Sample) where
       }
 
   left : (c : ℕ) (last : Option ℕ) → LastSays c last → LeavesSequence trace c → carriesCounter (trace c) && outOfSeq last (counter (trace c)) ≡ true
-  left c none s t = absurd (not-both _ (t .is-last .carries) (s (t .last) (t .is-last .before)))
+  left c none s t = absurd (s (t .last) (t .is-last))
   left c (some n) s t =
       let same = ap (λ (k : ℕ). counter (trace k)) (last-same c (t .last) (s .at) (t .is-last) (s .is-last)) in
       rw (t .carries)

@@ -1,15 +1,17 @@
 -- A watch follows a trace: what it keeps is what the rules ask of the cycles before, so it finds what they find.
--- Each cycle by one step of the watch; the counters by the last one carried. Assumes nothing.
+-- Each cycle by one step of the watch; the counters by the last one carried since a clear cycle. Assumes nothing.
 use Prim.Native.Nat.{ℕ, zero, suc}
 use mathlib.Core.Bool.{Bool, true, false, cond, not, _&&_}
 use mathlib.Core.List.{List}
 use mathlib.Core.Option.{Option, none, some}
 use mathlib.Core.Path.{_≡_, refl, _∙_, ap}
 use lib.Dec.{eqb}
-use Rattle.signals.specs.Stream.{Sample, sample, sampleAt}
+use Rattle.signals.specs.Stream.{Sample, sample, sampleAt, clearCycle}
+use Rattle.signals.specs.Tables.{Row}
+use Rattle.signals.specs.Written.{RuleName}
 use Rattle.stream_checker.specs.declared.watch.Watch.{Watch}
-use Rattle.stream_checker.specs.Rules.{stalled, breaksHeld, breaksStable, between, counter, afterCounter, carriesCounter, lastCounter, outOfSeq, breaksSeq, inOrder, rules}
-use Rattle.stream_checker.specs.Step.{start, before, breaksSeqAfter, rulesAfter, next, watchAfter, rulesFrom}
+use Rattle.stream_checker.specs.Rules.{stalled, breaksHeld, breaksStable, between, counter, afterCounter, carriesCounter, lastCounter, outOfSeq, breaksSeq, inOrder, unlessClear, rules}
+use Rattle.stream_checker.specs.Step.{start, before, breaksSeqAfter, rulesOf, rulesAfter, next, watchAfter, rulesFrom}
 
 -- s is the cycle before cycle i; before the first, one that is not stalled
 abbrev Previous : (ℕ → Sample) → ℕ → Sample → Type 0
@@ -26,9 +28,12 @@ record Follows (seqOn : Bool) (trace : ℕ → Sample) (i : ℕ) (w : Watch) : T
   previous : Previous trace i (before w)
   counters : seqOn ≡ true → Counted (lastCounter trace i) (w .counted) (w .due)
 
-counted-next : (b : Bool) (n : ℕ) (last : Option ℕ) (counted : Bool) (due : ℕ) → Counted last counted due → Counted (cond b (some n) last) (cond b true counted) (cond b (afterCounter n) due)
-counted-next true n last counted due h = (refl, refl)
-counted-next false n last counted due h = h
+counted-next :
+    (clear carries : Bool) (n : ℕ) (last : Option ℕ) (counted : Bool) (due : ℕ) → Counted last counted due →
+    Counted (cond clear none (cond carries (some n) last)) (cond clear false (cond carries true counted)) (cond clear 0 (cond carries (afterCounter n) due))
+counted-next true carries n last counted due h = refl
+counted-next false true n last counted due h = (refl, refl)
+counted-next false false n last counted due h = h
 
 counted-seq : (last : Option ℕ) (counted : Bool) (due n : ℕ) → Counted last counted due → counted && not (eqb n due) ≡ outOfSeq last n
 counted-seq none counted due n h = rw h
@@ -47,7 +52,9 @@ module _ (seqOn : Bool) (trace : ℕ → Sample) where
   follows-next i w control word e f =
       record {
         previous = rw e;
-        counters = λ on. rw (e, on) (counted-next (carriesCounter (sample control word)) _ (lastCounter trace i) (w .counted) (w .due) (f .counters on));
+        counters = λ on.
+            let now = sample control word in
+            rw (e, on) (counted-next (clearCycle now) (carriesCounter now) (counter now) (lastCounter trace i) (w .counted) (w .due) (f .counters on));
       }
 
   between-same :
@@ -60,13 +67,18 @@ module _ (seqOn : Bool) (trace : ℕ → Sample) where
   seq-same i w h = rw (counted-seq (lastCounter trace i) (w .counted) (w .due) (counter (trace i)) h)
 
   -- the watch breaks the rules that the trace breaks
-  rules-same : (i : ℕ) (w : Watch) → Follows seqOn trace i w → rulesAfter w (trace i) seqOn ≡ rules seqOn trace i
-  rules-same i w f =
+  order-same :
+      (i : ℕ) (w : Watch) → Follows seqOn trace i w →
+      rulesOf w (trace i) seqOn ≡ inOrder seqOn (between breaksHeld trace i) (between breaksStable trace i) (breaksSeq trace i)
+  order-same i w f =
       let held = between-same breaksHeld (λ s now h. rw h) i (before w) (f .previous) in
       let stable = between-same breaksStable (λ s now h. rw h) i (before w) (f .previous) in
       ap (λ (b : Bool). inOrder seqOn b (breaksStable (before w) (trace i)) (breaksSeqAfter w (trace i))) held
       ∙ ap (λ (b : Bool). inOrder seqOn (between breaksHeld trace i) b (breaksSeqAfter w (trace i))) stable
       ∙ seq-judged seqOn (between breaksHeld trace i) (between breaksStable trace i) _ _ (λ on. seq-same i w (f .counters on))
+
+  rules-same : (i : ℕ) (w : Watch) → Follows seqOn trace i w → rulesAfter w (trace i) seqOn ≡ rules seqOn trace i
+  rules-same i w f = ap (λ (rows : List (Row RuleName)). unlessClear (trace i) rows) (order-same i w f)
 
 module _ (seqOn : Bool) (controls words : List ℕ) where
   -- from the start on the watch follows the trace, through every cycle

@@ -11,7 +11,7 @@ use lib.ListN.{length, getD}
 use Rattle.signals.specs.Judging.{Finding, clean, broken, found, countBelow, findingBelow, cyclesCounted}
 use Rattle.signals.specs.Stream.{sampleAt}
 use Rattle.signals.specs.Tables.{Row, firstOf}
-use Rattle.signals.specs.Written.{RuleName, judged, Judgement}
+use Rattle.signals.specs.Written.{RuleName, judged}
 use Rattle.signals.proofs.Judging.{judges, stops, goes-on, count-le}
 use Rattle.stream_checker.specs.declared.Found.{Found}
 use Rattle.stream_checker.specs.declared.Found.the-variants.{First}
@@ -19,51 +19,58 @@ use Rattle.stream_checker.specs.declared.Rule.{Rule}
 use Rattle.stream_checker.specs.declared.Seen.{Seen}
 use Rattle.stream_checker.specs.declared.watch.Watch.{Watch}
 use Rattle.stream_checker.specs.Rules.{rules}
-use Rattle.stream_checker.specs.Verdicts.{handshakeAt, judgedBelow}
+use Rattle.stream_checker.specs.Verdicts.{handshakeAt, clearAt, Answer, answerBelow}
 use Rattle.stream_checker.specs.Step.{start, rulesAfter, next, watchAfter, rulesFrom, Sight, sightBelow, findingOf, sightOf}
-use Rattle.stream_checker.specs.Step.Sight.{finding, handshakes}
+use Rattle.stream_checker.specs.Step.Sight.{finding, handshakes, clears}
 use Rattle.stream_checker.specs.Written.{ruleName}
 use Rattle.stream_checker.proofs.Follows.{rules-from-start}
 
--- nothing is found in the cycles below i, and count and watch are those after them
-pub record SoFar (w : Watch) (controls words : List ℕ) (seqOn : Bool) (i handshakes : ℕ) (after : Watch) : Type 0 where
+-- nothing is found in the cycles below i, and the counts and the watch are those after them
+pub record SoFar (w : Watch) (controls words : List ℕ) (seqOn : Bool) (i handshakes clears : ℕ) (after : Watch) : Type 0 where
   pub nothing : findingBelow (rulesFrom w controls words seqOn) i ≡ clean
   pub counted : handshakes ≡ countBelow (handshakeAt (sampleAt controls words)) i
+  pub cleared : clears ≡ countBelow (clearAt (sampleAt controls words)) i
   pub watched : after ≡ watchAfter seqOn w controls words i
 
 module _ (w : Watch) (controls words : List ℕ) (seqOn : Bool) where
-  pub so-far-start : SoFar w controls words seqOn 0 0 w
-  so-far-start = record { nothing = refl; counted = refl; watched = refl }
+  pub so-far-start : SoFar w controls words seqOn 0 0 0 w
+  so-far-start = record { nothing = refl; counted = refl; cleared = refl; watched = refl }
 
-  module _ (i handshakes : ℕ) (after : Watch) (so-far : SoFar w controls words seqOn i handshakes after) where
+  module _ (i handshakes clears : ℕ) (after : Watch) (so-far : SoFar w controls words seqOn i handshakes clears after) where
     -- what the watch finds in cycle i is what the rules say
     found-there : (r : Option RuleName) → r ≡ firstOf (rulesAfter after (sampleAt controls words i) seqOn) → firstOf (rulesFrom w controls words seqOn i) ≡ r
     found-there r e = sym (e ∙ ap (λ (v : Watch). firstOf (rulesAfter v (sampleAt controls words i) seqOn)) (so-far .watched))
 
     pub sight-stops :
         (n : ℕ) (r : RuleName) → i < n → some r ≡ firstOf (rulesAfter after (sampleAt controls words i) seqOn) →
-        _≡_ {A = Sight} (record { finding = broken r i; handshakes = handshakes; watch = after }) (sightBelow w controls words seqOn n)
+        _≡_ {A = Sight} (record { finding = broken r i; handshakes = handshakes; clears = clears; watch = after }) (sightBelow w controls words seqOn n)
     sight-stops n r h e =
-        rw (stops (rulesFrom w controls words seqOn) i n r h (so-far .nothing) (found-there (some r) e), so-far .counted, so-far .watched)
+        rw (stops (rulesFrom w controls words seqOn) i n r h (so-far .nothing) (found-there (some r) e), so-far .counted, so-far .cleared, so-far .watched)
 
     pub sight-goes :
         none ≡ firstOf (rulesAfter after (sampleAt controls words i) seqOn) →
-        SoFar w controls words seqOn (i + 1) (handshakes + cond (handshakeAt (sampleAt controls words) i) 1 0) (next seqOn after (getD controls i 0) (getD words i 0))
+        SoFar w controls words seqOn (i + 1) (handshakes + cond (handshakeAt (sampleAt controls words) i) 1 0)
+        (clears + cond (clearAt (sampleAt controls words) i) 1 0)
+        (next seqOn after (getD controls i 0) (getD words i 0))
     sight-goes e =
         record {
           nothing = goes-on (rulesFrom w controls words seqOn) i (so-far .nothing) (found-there none e);
           counted = rw (add-one i, so-far .counted);
+          cleared = rw (add-one i, so-far .cleared);
           watched = rw (add-one i, so-far .watched);
         }
 
     pub sight-ends :
         (n : ℕ) → i ≡ n →
-        _≡_ {A = Sight} (record { finding = clean; handshakes = handshakes; watch = after }) (sightBelow w controls words seqOn n)
-    sight-ends n e = rw (← e, so-far .nothing, so-far .counted, so-far .watched)
+        _≡_ {A = Sight} (record { finding = clean; handshakes = handshakes; clears = clears; watch = after }) (sightBelow w controls words seqOn n)
+    sight-ends n e = rw (← e, so-far .nothing, so-far .counted, so-far .cleared, so-far .watched)
 
-    -- a cycle has at most one handshake
-    pub so-far-le : handshakes ≤ i
-    so-far-le = rw (so-far .counted) (count-le (handshakeAt (sampleAt controls words)) i)
+    -- a cycle adds at most one to a count
+    pub so-far-le : (handshakes ≤ i) × (clears ≤ i)
+    so-far-le = (
+      rw (so-far .counted) (count-le (handshakeAt (sampleAt controls words)) i),
+      rw (so-far .cleared) (count-le (clearAt (sampleAt controls words)) i),
+    )
 
 -- tables that agree in every cycle find the same
 finding-same :
@@ -73,15 +80,17 @@ finding-same rules others h (suc n) =
     ap (λ (f : Finding RuleName). found f (firstOf (rules n)) n) (finding-same rules others h n)
     ∙ ap (λ (rows : List (Row RuleName)). found (findingBelow others n) (firstOf rows) n) (h n)
 
--- from the start on, the sight is the verdict of the trace with its handshakes
+-- a sight as an answer
+abbrev pub answerOf : Sight → Answer
+answerOf s = record { judgement = record { verdict = judged (s .finding); handshakes = s .handshakes }; clears = s .clears }
+
+-- from the start on, the sight is the answer to the trace
 pub sight-from-start :
-    (controls words : List ℕ) (seqOn : Bool) (n : ℕ) →
-    let sight = sightBelow start controls words seqOn n in
-    _≡_ {A = Judgement} (record { verdict = judged (sight .finding); handshakes = sight .handshakes }) (judgedBelow seqOn (sampleAt controls words) n)
+    (controls words : List ℕ) (seqOn : Bool) (n : ℕ) → answerOf (sightBelow start controls words seqOn n) ≡ answerBelow seqOn (sampleAt controls words) n
 sight-from-start controls words seqOn n =
     rw (finding-same (rulesFrom start controls words seqOn) (rules seqOn (sampleAt controls words)) (rules-from-start seqOn controls words) n)
 
--- a breach lies among the cycles, and there are no more handshakes than cycles
+-- a breach lies among the cycles, and there is no more of anything than cycles
 pub finding-inside : (rules : ℕ → List (Row RuleName)) (n : ℕ) (r : RuleName) (c : ℕ) → findingBelow rules n ≡ broken r c → c < n
 finding-inside rules n r c e = judges rules n .broken-exactly r c .0 e .inside
 
@@ -106,16 +115,21 @@ module _ (seen : Seen) (w : Watch) (controls words : List ℕ) (seqOn : Bool) (s
       rw (ap handshakes sees-all)
       (count-inside (handshakeAt (sampleAt controls words)) (rulesFrom w controls words seqOn) (length controls))
 
+  pub clears-inside : seen .clears ≤ length controls
+  clears-inside =
+      rw (ap clears sees-all) (count-inside (clearAt (sampleAt controls words)) (rulesFrom w controls words seqOn) (length controls))
+
   pub cycle-inside : (rule : Rule) (c : ℕ) → seen .found ≡ First rule c → c < length controls
   cycle-inside rule c e =
       finding-inside (rulesFrom w controls words seqOn) (length controls) (ruleName rule) c (sym (ap finding sees-all) ∙ ap findingOf e)
 
-  -- from the start on it is the verdict of the trace
-  pub sees-verdict :
+  -- from the start on it is the answer to the trace
+  pub sees-answer :
       w ≡ start → (f : Found) → seen .found ≡ f →
-      _≡_ {A = Judgement} (record { verdict = judged (findingOf f); handshakes = seen .handshakes }) (judgedBelow seqOn (sampleAt controls words) (length controls))
-  sees-verdict e f found-is =
-      ap (λ (g : Found). record { verdict = judged (findingOf g); handshakes = seen .handshakes }) (sym found-is)
-      ∙ ap (λ (s : Sight). record { verdict = judged (s .finding); handshakes = s .handshakes }) sees-all
-      ∙ ap (λ (v : Watch). let s = sightBelow v controls words seqOn (length controls) in record { verdict = judged (s .finding); handshakes = s .handshakes }) e
+      _≡_ {A = Answer} (record { judgement = record { verdict = judged (findingOf f); handshakes = seen .handshakes }; clears = seen .clears })
+      (answerBelow seqOn (sampleAt controls words) (length controls))
+  sees-answer e f found-is =
+      ap (λ (g : Found). record { judgement = record { verdict = judged (findingOf g); handshakes = seen .handshakes }; clears = seen .clears }) (sym found-is)
+      ∙ ap answerOf sees-all
+      ∙ ap (λ (v : Watch). answerOf (sightBelow v controls words seqOn (length controls))) e
       ∙ sight-from-start controls words seqOn (length controls)

@@ -1,3 +1,4 @@
+pub mod Clears
 pub mod Counters
 pub mod Follows
 pub mod Judged

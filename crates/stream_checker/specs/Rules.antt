@@ -1,17 +1,17 @@
--- Document 01, "Stream rules", with request T-04: what it means that a cycle of a stream breaks a rule. Assumes nothing.
+-- Document 01, "Stream rules", with requests T-04 and T-09: what it means that a cycle of a stream breaks a rule. Assumes nothing.
 use Prim.Native.Nat.{ℕ, zero, suc, _+_, _%_}
 use mathlib.Core.Bool.{Bool, false, cond, not, _&&_}
 use mathlib.Core.List.{List, [], _∷_}
 use mathlib.Core.Option.{Option, none, some}
 use lib.Dec.{eqb}
 use Rattle.signals.specs.Payloads.{strobed, samePayload}
-use Rattle.signals.specs.Stream.{Sample, handshake}
+use Rattle.signals.specs.Stream.{Sample, clearCycle, handshake}
 use Rattle.signals.specs.Tables.{Row, _⇐_}
 use Rattle.signals.specs.Written.{RuleName, number, seq}
 
--- A cycle that lays a duty on the next: valid 1 and ready 0.
+-- A cycle that lays a duty on the next: valid 1 and ready 0. A clear cycle lays none.
 abbrev pub stalled : Sample → Bool
-stalled before = before .valid && not (before .ready)
+stalled before = not (clearCycle before) && (before .valid && not (before .ready))
 
 -- Rule 4: valid must be 1 in the next cycle.
 abbrev pub breaksHeld : (before now : Sample) → Bool
@@ -40,10 +40,11 @@ afterCounter n = (n + 1) % counters
 abbrev pub carriesCounter : Sample → Bool
 carriesCounter s = handshake s && (strobed (s .payload .strb) 0 && strobed (s .payload .strb) 1)
 
--- A trace is a sample for each cycle. The counter that was carried last before cycle c, if any was.
+-- A trace is a sample for each cycle. The counter that was carried last before cycle c, if any was since the last clear cycle.
 abbrev pub lastCounter : (ℕ → Sample) → ℕ → Option ℕ
 lastCounter trace zero = none
-lastCounter trace (suc c) = cond (carriesCounter (trace c)) (some (counter (trace c))) (lastCounter trace c)
+lastCounter trace (suc c) =
+    cond (clearCycle (trace c)) none (cond (carriesCounter (trace c)) (some (counter (trace c))) (lastCounter trace c))
 
 -- n does not follow the counter before it; the first is free
 abbrev pub outOfSeq : Option ℕ → ℕ → Bool
@@ -58,6 +59,11 @@ breaksSeq trace c = carriesCounter (trace c) && outOfSeq (lastCounter trace c) (
 abbrev pub inOrder : (seqOn : Bool) → (held stable sequence : Bool) → List (Row RuleName)
 inOrder seqOn held stable sequence = number 4 ⇐ held ∷ number 2 ⇐ stable ∷ cond seqOn (seq ⇐ sequence ∷ []) []
 
+-- A clear cycle is not judged.
+abbrev pub unlessClear : Sample → List (Row RuleName) → List (Row RuleName)
+unlessClear now rows = cond (clearCycle now) [] rows
+
 -- the rules in cycle c of a trace
 abbrev pub rules : (seqOn : Bool) → (ℕ → Sample) → ℕ → List (Row RuleName)
-rules seqOn trace c = inOrder seqOn (between breaksHeld trace c) (between breaksStable trace c) (breaksSeq trace c)
+rules seqOn trace c =
+    unlessClear (trace c) (inOrder seqOn (between breaksHeld trace c) (between breaksStable trace c) (breaksSeq trace c))

@@ -7,7 +7,7 @@ use mathlib.Core.Option.{Option, none, some}
 use lib.Dec.{eqb}
 use lib.ListN.{getD}
 use Rattle.signals.specs.Judging.{Finding, clean, broken, countBelow, findingBelow, cyclesCounted}
-use Rattle.signals.specs.Stream.{Sample, sample, sampleAt}
+use Rattle.signals.specs.Stream.{Sample, sample, sampleAt, clearCycle}
 use Rattle.signals.specs.Tables.{Row, _⇐_}
 use Rattle.signals.specs.Written.{RuleName, seq}
 use Rattle.stream_checker.specs.declared.Found.{Found}
@@ -16,8 +16,8 @@ use Rattle.stream_checker.specs.declared.Seen.{Seen}
 use Rattle.stream_checker.specs.declared.watch.Breach.{Breach}
 use Rattle.stream_checker.specs.declared.watch.Breach.the-variants.{Nothing, Of}
 use Rattle.stream_checker.specs.declared.watch.Watch.{Watch}
-use Rattle.stream_checker.specs.Rules.{breaksHeld, breaksStable, counter, afterCounter, carriesCounter, inOrder}
-use Rattle.stream_checker.specs.Verdicts.{handshakeAt}
+use Rattle.stream_checker.specs.Rules.{breaksHeld, breaksStable, counter, afterCounter, carriesCounter, inOrder, unlessClear}
+use Rattle.stream_checker.specs.Verdicts.{handshakeAt, clearAt}
 use Rattle.stream_checker.specs.Written.{ruleName}
 
 -- nothing is stalled, and no counter was carried
@@ -36,9 +36,12 @@ notDue w n = w .counted && not (eqb n (w .due))
 abbrev pub breaksSeqAfter : Watch → Sample → Bool
 breaksSeqAfter w now = carriesCounter now && notDue w (counter now)
 
--- the rules in the next cycle
+-- the rules in the next cycle, and those of them that are judged
+abbrev pub rulesOf : Watch → Sample → (seqOn : Bool) → List (Row RuleName)
+rulesOf w now seqOn = inOrder seqOn (breaksHeld (before w) now) (breaksStable (before w) now) (breaksSeqAfter w now)
+
 abbrev pub rulesAfter : Watch → Sample → (seqOn : Bool) → List (Row RuleName)
-rulesAfter w now seqOn = inOrder seqOn (breaksHeld (before w) now) (breaksStable (before w) now) (breaksSeqAfter w now)
+rulesAfter w now seqOn = unlessClear now (rulesOf w now seqOn)
 
 -- rule seq alone, where it is switched on
 abbrev pub seqAfter : Watch → Sample → (seqOn : Bool) → List (Row RuleName)
@@ -49,14 +52,16 @@ abbrev pub ruleIn : Breach → Option RuleName
 ruleIn Nothing = none
 ruleIn (Of rule) = some (ruleName rule)
 
--- the watch after a cycle; counters are kept where rule seq is judged
+-- the watch after a cycle; counters are kept where rule seq is judged, and none is after a clear cycle
 abbrev pub next : (seqOn : Bool) → Watch → (control word : ℕ) → Watch
 next seqOn w control word =
+    let now = sample control word in
+    let carries = seqOn && carriesCounter now in
     record {
       control = control;
       «data» = word;
-      counted = cond (seqOn && carriesCounter (sample control word)) true (w .counted);
-      due = cond (seqOn && carriesCounter (sample control word)) (afterCounter (counter (sample control word))) (w .due);
+      counted = cond (clearCycle now) false (cond carries true (w .counted));
+      due = cond (clearCycle now) 0 (cond carries (afterCounter (counter now)) (w .due));
     }
 
 -- the watch after the first n of further cycles
@@ -68,10 +73,11 @@ watchAfter seqOn w controls words (suc n) = next seqOn (watchAfter seqOn w contr
 abbrev pub rulesFrom : Watch → (controls words : List ℕ) → (seqOn : Bool) → ℕ → List (Row RuleName)
 rulesFrom w controls words seqOn c = rulesAfter (watchAfter seqOn w controls words c) (sampleAt controls words c) seqOn
 
--- What is seen in further cycles: the first breach, and the handshakes and the watch before it; or none, and those at the end.
+-- What is seen in further cycles: the first breach, and the handshakes, the clear cycles and the watch before it; or none, and those at the end.
 pub record Sight : Type 0 where
   pub finding : Finding RuleName
   pub handshakes : ℕ
+  pub clears : ℕ
   pub watch : Watch
 
 -- the sight of the first n of them
@@ -81,6 +87,7 @@ sightBelow w controls words seqOn n =
     record {
       finding = finding;
       handshakes = countBelow (handshakeAt (sampleAt controls words)) (cyclesCounted finding n);
+      clears = countBelow (clearAt (sampleAt controls words)) (cyclesCounted finding n);
       watch = watchAfter seqOn w controls words (cyclesCounted finding n);
     }
 
@@ -90,4 +97,5 @@ findingOf NoBreach = clean
 findingOf (First rule c) = broken (ruleName rule) c
 
 abbrev pub sightOf : Seen → Sight
-sightOf seen = record { finding = findingOf (seen .found); handshakes = seen .handshakes; watch = seen .watch }
+sightOf seen =
+    record { finding = findingOf (seen .found); handshakes = seen .handshakes; clears = seen .clears; watch = seen .watch }

@@ -1,6 +1,6 @@
 // The checker of HWPE-Stream traces: which cycle breaks a rule first, and which rule.
 //
-// Writes out "Stream rules" of document 01, with request T-04. It is document 01's judge of HWPE-Stream traces.
+// Writes out "Stream rules" of document 01, with requests T-04 and T-09. It is document 01's judge of HWPE-Stream traces.
 pub mod watch;
 
 ghost use mathlib.Core.Bool.{cond};
@@ -9,9 +9,9 @@ ghost use Prim.Native.Nat.{_+_, _<_, _≤_, _^_, min};
 ghost use lib.ListN.{length};
 ghost use Rattle.signals.specs.Numbers.{ruleNumber};
 ghost use Rattle.signals.specs.Refusals.{refusalOf, maxCycles};
-ghost use Rattle.signals.specs.Stream.{sample, sampleAt, handshake};
+ghost use Rattle.signals.specs.Stream.{sampleAt};
 ghost use Rattle.signals.specs.Tables.{firstOf};
-ghost use Rattle.stream_checker.specs.Verdicts.{grounds, judgedBelow, checkStream};
+ghost use Rattle.stream_checker.specs.Verdicts.{grounds, answerBelow, checkStream};
 ghost use Rattle.stream_checker.specs.Written.{ruleName, written};
 ghost use Rattle.stream_checker.specs.Step.{sightBelow, sightOf};
 use signals::MAX_CYCLES;
@@ -19,6 +19,7 @@ use signals::Outcome;
 use signals::Refusal;
 use signals::SEQ;
 use signals::stream::any_reserved;
+use signals::stream::clear;
 use watch::Breach;
 use watch::Watch;
 use watch::handshake;
@@ -58,17 +59,19 @@ pub enum Found {
     First(Rule, usize),
 }
 
-// With it, the handshakes among the cycles before the breach, or among all, and what the next cycle is judged by.
+// With it, the handshakes and the clears among the cycles before the breach, or among all, and what the next cycle is judged by.
 pub struct Seen {
     pub found: Found,
     pub handshakes: usize,
+    pub clears: usize,
     pub watch: Watch,
 }
 
-// A verdict, with the handshakes before the broken cycle, or in all cycles when clean.
+// A verdict, with the handshakes and the clears before the broken cycle, or in all cycles when clean.
 pub struct Checked {
     pub verdict: Verdict,
     pub handshakes: u32,
+    pub clears: u32,
 }
 
 // The refusals 1, 3 and 2, in this order.
@@ -98,16 +101,12 @@ fn cycles_of(control: &[u8], data: &[u32]) -> usize
     }
 }
 
-// How many handshakes there are with one cycle more.
-fn handshakes_with(handshakes: usize, control: u8) -> usize
-    requires { ⌜ handshakes + 1 < 2 ^ 64 ⌝ }
-    ensures { λ r. ⌜ r ≡ handshakes + cond (handshake (sample control 0)) 1 0 ⌝ }
+// A count with one cycle more, which counts or not.
+fn count_with(count: usize, counts: bool) -> usize
+    requires { ⌜ count + 1 < 2 ^ 64 ⌝ }
+    ensures { λ r. ⌜ r ≡ count + cond counts 1 0 ⌝ }
 {
-    if handshake(control) {
-        handshakes + 1
-    } else {
-        handshakes
-    }
+    if counts { count + 1 } else { count }
 }
 
 // Judges further cycles, as many as both sequences have, up to the first breach: the one loop for a trace and for a burst.
@@ -117,6 +116,7 @@ pub fn judge_cycles(watch: Watch, control: &[u8], data: &[u32], seq: bool) -> Se
     let count = cycles_of(control, data);
     let mut watch = watch;
     let mut handshakes = 0;
+    let mut clears = 0;
     let mut i = 0;
     while i < count {
         let c = control[i];
@@ -125,16 +125,19 @@ pub fn judge_cycles(watch: Watch, control: &[u8], data: &[u32], seq: bool) -> Se
             return Seen {
                 found: Found::First(rule, i),
                 handshakes,
+                clears,
                 watch,
             };
         }
-        handshakes = handshakes_with(handshakes, c);
+        handshakes = count_with(handshakes, handshake(c));
+        clears = count_with(clears, clear(c));
         watch = watch.next(c, d, seq);
         i += 1;
     }
     Seen {
         found: Found::NoBreach,
         handshakes,
+        clears,
         watch,
     }
 }
@@ -142,19 +145,22 @@ pub fn judge_cycles(watch: Watch, control: &[u8], data: &[u32], seq: bool) -> Se
 // The verdict on a trace that is not refused.
 fn judge_trace(control: &[u8], data: &[u32], seq: bool) -> Checked
     requires { ⌜ (length (now control) ≡ length (now «data»)) × (length (now control) ≤ maxCycles) ⌝ }
-    ensures { λ r. ⌜ written r ≡ judgedBelow seq (sampleAt (now (control .entry)) (now («data» .entry))) (length (now (control .entry))) ⌝ }
+    ensures { λ r. ⌜ written r ≡ answerBelow seq (sampleAt (now (control .entry)) (now («data» .entry))) (length (now (control .entry))) ⌝ }
 {
     let seen = judge_cycles(Watch::start(), control, data, seq);
     let handshakes = seen.handshakes as u32;
+    let clears = seen.clears as u32;
     let found = seen.found;
     match found {
         Found::NoBreach => Checked {
             verdict: Verdict::Clean,
             handshakes,
+            clears,
         },
         Found::First(rule, cycle) => Checked {
             verdict: Verdict::Broken(rule, cycle as u32),
             handshakes,
+            clears,
         },
     }
 }
@@ -168,6 +174,7 @@ pub fn check_stream(control: &[u8], data: &[u32], seq: bool) -> Checked
         Outcome::Refused(why) => Checked {
             verdict: Verdict::Refused(why),
             handshakes: 0,
+            clears: 0,
         },
     }
 }

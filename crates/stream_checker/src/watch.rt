@@ -5,8 +5,9 @@ ghost use Rattle.signals.specs.Payloads.{strobed, samePayload};
 ghost use Rattle.signals.specs.Stream.{sample, handshake};
 ghost use Rattle.stream_checker.specs.Rules.{stalled, carriesCounter, counter, afterCounter};
 ghost use Rattle.signals.specs.Tables.{firstOf};
-ghost use Rattle.stream_checker.specs.Step.{before, start, breaksSeqAfter, rulesAfter, seqAfter, ruleIn, next};
+ghost use Rattle.stream_checker.specs.Step.{before, start, breaksSeqAfter, rulesOf, rulesAfter, seqAfter, ruleIn, next};
 use crate::Rule;
+use signals::stream::clear;
 use signals::stream::ready;
 use signals::stream::strb;
 use signals::stream::valid;
@@ -25,7 +26,7 @@ pub struct Watch {
     // The cycle before.
     pub control: u8,
     pub data: u32,
-    // Whether a counter was carried, where rule seq is judged, and the counter that is due next.
+    // Whether a counter was carried since the last clear, where rule seq is judged, and the counter that is due next.
     pub counted: bool,
     pub due: u32,
 }
@@ -33,7 +34,7 @@ pub struct Watch {
 pub(crate) fn handshake(control: u8) -> bool
     ensures { λ r. ⌜ r ≡ handshake (sample control 0) ⌝ }
 {
-    valid(control) & ready(control)
+    !clear(control) & (valid(control) & ready(control))
 }
 
 // Whether bytes 0 and 1 of a word, which hold its counter, are both strobed.
@@ -54,7 +55,7 @@ fn carries_counter(control: u8) -> bool
 pub fn stalled(control: u8) -> bool
     ensures { λ r. ⌜ r ≡ stalled (sample control 0) ⌝ }
 {
-    valid(control) & !ready(control)
+    !clear(control) & (valid(control) & !ready(control))
 }
 
 // The counter that follows the one in a word.
@@ -110,8 +111,8 @@ impl Watch {
     }
 
     // The first rule in order that the next cycle breaks.
-    pub(crate) fn breach(self, control: u8, data: u32, seq: bool) -> Breach
-        ensures { λ r. ⌜ ruleIn r ≡ firstOf (rulesAfter self (sample control «data») seq) ⌝ }
+    fn first_broken(self, control: u8, data: u32, seq: bool) -> Breach
+        ensures { λ r. ⌜ ruleIn r ≡ firstOf (rulesOf self (sample control «data») seq) ⌝ }
     {
         if stalled(self.control) {
             let held = valid(control);
@@ -130,10 +131,28 @@ impl Watch {
         }
     }
 
-    // The watch after the next cycle; counters are kept where rule seq is judged.
+    // The same, where the next cycle is judged: a clear cycle is not.
+    pub(crate) fn breach(self, control: u8, data: u32, seq: bool) -> Breach
+        ensures { λ r. ⌜ ruleIn r ≡ firstOf (rulesAfter self (sample control «data») seq) ⌝ }
+    {
+        if clear(control) {
+            return Breach::Nothing;
+        }
+        self.first_broken(control, data, seq)
+    }
+
+    // The watch after the next cycle. Counters are kept where rule seq is judged, and a clear cycle drops them.
     pub(crate) fn next(self, control: u8, data: u32, seq: bool) -> Watch
         ensures { λ r. ⌜ r ≡ next seq self control «data» ⌝ }
     {
+        if clear(control) {
+            return Watch {
+                control,
+                data,
+                counted: false,
+                due: 0,
+            };
+        }
         if seq & carries_counter(control) {
             return Watch {
                 control,

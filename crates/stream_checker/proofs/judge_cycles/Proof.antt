@@ -1,5 +1,5 @@
--- `judge_cycles` meets its contract. The invariant: nothing is found in the cycles below `i`, and count and watch are those after them.
--- The measure is what is left of the cycles. Assumes nothing.
+-- `judge_cycles` meets its contract. The invariant: nothing is found in the cycles below `i`, and the counts and the watch are those after
+-- them. The measure is what is left of the cycles. Assumes nothing.
 use mathlib.Core.Path.{_≡_, sym, _∙_, ap}
 use Prim.Native.Nat.{_≤_, _-_, min}
 use native.Mathlib.Omega.{arith}
@@ -11,11 +11,11 @@ use Rattle.stream_checker.proofs.judge_cycles.Statement.{statement}
 use Rattle.stream_checker.proofs.judge_cycles.Tie as tie
 
 abbrev Inv-loop : tie.InvT-loop
-Inv-loop control «data» seq count watch₀ handshakes₀ i₀ watch handshakes i =
-    (i ≤ count) × SoFar watch₀ control «data» seq i handshakes watch
+Inv-loop control «data» seq count watch₀ handshakes₀ clears₀ i₀ watch handshakes clears i =
+    (i ≤ count) × SoFar watch₀ control «data» seq i handshakes clears watch
 
 abbrev μ-loop : tie.MeasureT-loop
-μ-loop control «data» seq count watch₀ handshakes₀ i₀ watch handshakes i = count - i
+μ-loop control «data» seq count watch₀ handshakes₀ clears₀ i₀ watch handshakes clears i = count - i
 
 cycles-of-requires : tie.Need-cycles-of-requires Inv-loop μ-loop
 cycles-of-requires c κs = search needs
@@ -42,7 +42,7 @@ returns : tie.Need-returns Inv-loop μ-loop
 returns c =
     let a = c .before .before .before .before .before .before .before .before .before .before .before .args in
     let l = c .before .before .before .before .before .before .before .loop in
-    sight-stops (a .watch) (a .control .now) (a .«data» .now) (a .seq) (l .i) (l .handshakes) (l .watch) (l .inv .1)
+    sight-stops (a .watch) (a .control .now) (a .«data» .now) (a .seq) (l .i) (l .handshakes) (l .clears) (l .watch) (l .inv .1)
     (min (length (a .control .now)) (length (a .«data» .now))) _
     (omega (arith, c .before .before .before .before .before .before .before .before .cycles-of .ensures))
     (ap ruleIn (sym (c .before .rule .given .1)) ∙ c .before .before .before .breach .ensures)
@@ -50,36 +50,54 @@ returns c =
 enum-told : tie.Need-enum-told Inv-loop μ-loop
 enum-told c = search needs
 
-handshakes-with-requires : tie.Need-handshakes-with-requires Inv-loop μ-loop
-handshakes-with-requires c κs =
-    let l = c .before .before .before .before .before .before .loop in
-    let h : l .handshakes ≤ l .i = so-far-le _ _ _ _ (l .i) (l .handshakes) (l .watch) (l .inv .1) in
-    omega (arith, c .before .before .before .before .before .before .before .cycles-of .ensures)
+handshake-requires : tie.Need-handshake-requires Inv-loop μ-loop
+handshake-requires c κs = search needs
+
+count-with-requires : tie.Need-count-with-requires Inv-loop μ-loop
+count-with-requires c κs =
+    let l = c .before .before .before .before .before .before .before .loop in
+    let h = so-far-le _ _ _ _ (l .i) (l .handshakes) (l .clears) (l .watch) (l .inv .1) .0 in
+    omega (arith, h, c .before .before .before .before .before .before .before .before .cycles-of .ensures)
+
+clear-requires : tie.Need-clear-requires Inv-loop μ-loop
+clear-requires c κs = search needs
+
+count-with-requires-2 : tie.Need-count-with-requires-2 Inv-loop μ-loop
+count-with-requires-2 c κs =
+    let l = c .before .before .before .before .before .before .before .before .before .loop in
+    let h = so-far-le _ _ _ _ (l .i) (l .handshakes) (l .clears) (l .watch) (l .inv .1) .1 in
+    omega (arith, h, c .before .before .before .before .before .before .before .before .before .before .cycles-of .ensures)
 
 next-requires : tie.Need-next-requires Inv-loop μ-loop
 next-requires c κs = search needs
 
+-- the turn of the loop whose counts and watch were just made
+abbrev turn : tie.After-next Inv-loop μ-loop → tie.After-enum-told Inv-loop μ-loop
+turn c = c .before .before .before .before .before
+
 add-i : tie.Need-add-i Inv-loop μ-loop
-add-i c = omega (arith, c .before .before .before .before .before .before .before .before .before .cycles-of .ensures)
+add-i c = omega (arith, turn c .before .before .before .before .before .before .before .cycles-of .ensures)
 
 loop-less : tie.Need-loop-less Inv-loop μ-loop
 loop-less c = omega arith
 
 loop-again : tie.Need-loop-again Inv-loop μ-loop
 loop-again c =
-    let a = c .before .before .before .before .before .before .before .before .before .before .before .before .args in
-    let l = c .before .before .before .before .before .before .before .before .loop in (
+    let a = turn c .before .before .before .before .before .before .before .before .before .before .args in
+    let l = turn c .before .before .before .before .before .before .loop in
+    let handshakes = rw (c .before .before .before .before .handshake .ensures) at (c .before .before .before .count-with .ensures) in
+    let clears = rw (c .before .before .clear .ensures) at (c .before .count-with2 .ensures) in (
       omega arith,
-      rw (c .before .handshakes-with .ensures, c .next .ensures)
-          (sight-goes (a .watch) (a .control .now) (a .«data» .now) (a .seq) (l .i) (l .handshakes) (l .watch) (l .inv .1)
-          (ap ruleIn (sym (c .before .before .enum-told .given .1)) ∙ c .before .before .before .before .breach .ensures)),
+      rw (handshakes, clears, c .next .ensures)
+          (sight-goes (a .watch) (a .control .now) (a .«data» .now) (a .seq) (l .i) (l .handshakes) (l .clears) (l .watch) (l .inv .1)
+          (ap ruleIn (sym (turn c .enum-told .given .1)) ∙ turn c .before .before .breach .ensures)),
     )
 
 returns-2 : tie.Need-returns-2 Inv-loop μ-loop
 returns-2 c =
     let a = c .before .before .before .before .before .args in
     let l = c .before .loop in
-    sight-ends (a .watch) (a .control .now) (a .«data» .now) (a .seq) (l .i) (l .handshakes) (l .watch) (l .inv .1)
+    sight-ends (a .watch) (a .control .now) (a .«data» .now) (a .seq) (l .i) (l .handshakes) (l .clears) (l .watch) (l .inv .1)
     (min (length (a .control .now)) (length (a .«data» .now)))
     (omega (arith, c .before .before .cycles-of .ensures))
 
@@ -98,7 +116,10 @@ judge-cycles-spec =
     enum-known-rule
     returns
     enum-told
-    handshakes-with-requires
+    handshake-requires
+    count-with-requires
+    clear-requires
+    count-with-requires-2
     next-requires
     add-i
     loop-less

@@ -7,13 +7,13 @@ use borrow.Author.Needs.{needs}
 use native.Mathlib.Omega.{arith}
 use lib.ListN.{length, drop}
 use Rattle.signals.specs.Refusals.{anyOf}
-use Rattle.signals.specs.Stream.{reservedBits}
+use Rattle.signals.specs.Stream.{reservedBit}
 use Rattle.signals.proofs.Any.{any-joins, any-all}
 use Rattle.signals.proofs.stream.any_reserved.Statement.{statement}
 use Rattle.signals.proofs.stream.any_reserved.Tie as tie
 
 abbrev Inv-loop : tie.InvT-loop
-Inv-loop controls any₀ i₀ any i = (i ≤ length controls) × (any || anyOf reservedBits (drop i controls) ≡ anyOf reservedBits controls)
+Inv-loop controls any₀ i₀ any i = (i ≤ length controls) × (any || anyOf reservedBit (drop i controls) ≡ anyOf reservedBit controls)
 
 abbrev μ-loop : tie.MeasureT-loop
 μ-loop controls any₀ i₀ any i = length controls - i
@@ -36,11 +36,11 @@ loop-less c = omega arith
 loop-again : tie.Need-loop-again Inv-loop μ-loop
 loop-again c =
     let l = c .before .before .before .loop in
-    (omega arith, rw (c .reserved .ensures) (any-joins reservedBits (l .i) _ (l .any) _ (l .inv .1) (omega arith)))
+    (omega arith, rw (c .reserved .ensures) (any-joins reservedBit (l .i) _ (l .any) _ (l .inv .1) (omega arith)))
 
 returns : tie.Need-returns Inv-loop μ-loop
 returns c =
-    let l = c .before .loop in any-all reservedBits (l .i) _ (l .any) _ (l .inv .1) (omega arith)
+    let l = c .before .loop in any-all reservedBit (l .i) _ (l .any) _ (l .inv .1) (omega arith)
 
 pub any-reserved-spec : {M : Type 1} → statement M
 any-reserved-spec =

@@ -1,7 +1,10 @@
--- `watch::handshake` meets its contract, by what `valid` and `ready` ensure. Assumes nothing.
+-- `watch::handshake` meets its contract, by what `clear`, `valid` and `ready` ensure. Assumes nothing.
 use borrow.Author.Needs.{needs}
 use Rattle.stream_checker.proofs.watch.handshake.Statement.{statement}
 use Rattle.stream_checker.proofs.watch.handshake.Tie as tie
+
+clear-requires : tie.Need-clear-requires
+clear-requires c κs = search needs
 
 valid-requires : tie.Need-valid-requires
 valid-requires c κs = search needs
@@ -10,7 +13,7 @@ ready-requires : tie.Need-ready-requires
 ready-requires c κs = search needs
 
 returns : tie.Need-returns
-returns c = simp (c .before .valid .ensures, c .ready .ensures)
+returns c = simp (c .before .before .clear .ensures, c .before .valid .ensures, c .ready .ensures)
 
 pub handshake-spec : {M : Type 1} → statement M
-handshake-spec = tie.close (tie.spec valid-requires ready-requires returns)
+handshake-spec = tie.close (tie.spec clear-requires valid-requires ready-requires returns)
