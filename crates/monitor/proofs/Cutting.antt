@@ -3,7 +3,7 @@
 use Prim.Native.Nat.{ℕ, zero, suc, _+_, _<_, _≤_}
 use native.Mathlib.Nat.{zero-add, add-zero, add-suc}
 use native.Mathlib.Omega.{arith}
-use mathlib.Core.Bool.{Bool, true, false, cond}
+use mathlib.Core.Bool.{Bool, false}
 use mathlib.Core.List.{List, [], _∷_, _++_}
 use mathlib.Core.Logic.{_⊎_, inl, inr, ⊎-elim}
 use mathlib.Core.Option.{Option, none, some}
@@ -17,21 +17,20 @@ use Rattle.signals.specs.Numbers.{inThree}
 use Rattle.signals.specs.Refusals.{maxCycles}
 use Rattle.signals.specs.Stream.{Sample, sample, sampleAt}
 use Rattle.signals.specs.Tables.{firstOf}
-use Rattle.signals.specs.Written.{RuleName, Judgement}
+use Rattle.signals.specs.Written.{RuleName}
 use Rattle.signals.specs.declared.Outcome.the-variants.{Accepted, Refused}
 use Rattle.signals.specs.declared.Refusal.{Refusal}
 use Rattle.signals.proofs.Tables.{keeps-none, none-keeps}
 use Rattle.stream_checker.specs.Step.{start, rulesFrom}
 use Rattle.stream_checker.specs.Verdicts as whole
-use Rattle.stream_checker.specs.Verdicts.{handshakeAt, judgedBelow, checkStream}
+use Rattle.stream_checker.specs.Verdicts.{handshakeAt, clearAt, Answer, answerBelow, checkStream}
 use Rattle.stream_checker.proofs.Judged.{sight-from-start}
-use Rattle.monitor.specs.declared.Fed.{Fed}
 use Rattle.monitor.specs.declared.Monitor.{Monitor}
-use Rattle.monitor.specs.declared.Monitor.Monitor.{seq, cycles, verdict, rule, cycle, handshakes}
+use Rattle.monitor.specs.declared.Monitor.Monitor.{seq, cycles, verdict, rule, cycle, handshakes, clears}
 use Rattle.monitor.specs.Bursts.{maxSeen, grounds, unlessRefused, fedBy}
 use Rattle.monitor.specs.Cycle.{oneMore, afterCycles}
-use Rattle.monitor.specs.Record.{fresh, legal}
-use Rattle.monitor.specs.Theorems.{Burst, after, taken, joined, Says, StandsFor, AnyCutting, OneBurst, AsOneBurst}
+use Rattle.monitor.specs.Record.{fresh}
+use Rattle.monitor.specs.Theorems.{Burst, after, taken, joined, Says, AnyCutting, AsOneBurst}
 use Rattle.monitor.proofs.Following.{Stands, stands}
 use Rattle.monitor.proofs.Keeps.{fresh-legal}
 use Rattle.monitor.proofs.Judged.{legal-clean}
@@ -136,6 +135,7 @@ module _ (seqOn : Bool) (controls words : List ℕ) (n : ℕ) where
     rule-is : r .rule ≡ inThree f .rule
     cycle-is : r .cycle ≡ inThree f .cycle
     counted : r .handshakes ≡ countBelow (handshakeAt (sampleAt controls words)) (cyclesCounted f n)
+    cleared : r .clears ≡ countBelow (clearAt (sampleAt controls words)) (cyclesCounted f n)
 
   is-found : (f : Finding RuleName) (r : Monitor) → Stands (fresh seqOn) controls words n f r → IsFound f r
   is-found clean r e =
@@ -146,6 +146,7 @@ module _ (seqOn : Bool) (controls words : List ℕ) (n : ℕ) where
         rule-is = ap rule e;
         cycle-is = ap cycle e;
         counted = ap handshakes e ∙ zero-add (countBelow (handshakeAt (sampleAt controls words)) n);
+        cleared = ap clears e ∙ zero-add (countBelow (clearAt (sampleAt controls words)) n);
       }
   is-found (broken name c) r e =
       record {
@@ -155,6 +156,7 @@ module _ (seqOn : Bool) (controls words : List ℕ) (n : ℕ) where
         rule-is = ap rule e;
         cycle-is = ap cycle e ∙ zero-add c;
         counted = ap handshakes e ∙ zero-add (countBelow (handshakeAt (sampleAt controls words)) c);
+        cleared = ap clears e ∙ zero-add (countBelow (clearAt (sampleAt controls words)) c);
       }
 
   -- from a fresh record on, the record stands for the whole trace
@@ -164,17 +166,18 @@ module _ (seqOn : Bool) (controls words : List ℕ) (n : ℕ) where
   found-in-all : IsFound (findingBelow (rulesFrom start controls words seqOn) n) last
   found-in-all = is-found _ last (stands (fresh seqOn) controls words (legal-clean (fresh seqOn) (fresh-legal seqOn) (λ q. omega (arith, q))) n)
 
-  one-burst-says : Says last (judgedBelow seqOn (sampleAt controls words) n)
+  one-burst-says : Says last (answerBelow seqOn (sampleAt controls words) n)
   one-burst-says =
       let is = found-in-all in
       let same = sight-from-start controls words seqOn n in
       record {
         found = findingBelow (rulesFrom start controls words seqOn) n;
-        is-found = sym (ap (λ (j : Judgement). j .verdict) same);
+        is-found = sym (ap (λ (a : Answer). a .judgement .verdict) same);
         verdict = is .verdict-is;
         rule = is .rule-is;
         cycle = is .cycle-is;
-        handshakes = is .counted ∙ ap (λ (j : Judgement). j .handshakes) same;
+        handshakes = is .counted ∙ ap (λ (a : Answer). a .judgement .handshakes) same;
+        clears = is .cleared ∙ ap (λ (a : Answer). a .clears) same;
       }
 
 pub any-cutting : AnyCutting
@@ -186,7 +189,7 @@ any-cutting seqOn bursts =
     record {
       switch = ap seq ends ∙ is .switch;
       seen = ap cycles ends ∙ is .seen;
-      says = subst (λ (m : Monitor). Says m (judgedBelow seqOn (sampleAt (trace .controls) (trace .words)) n)) (sym ends) (one-burst-says seqOn (trace .controls) (trace .words) n);
+      says = subst (λ (m : Monitor). Says m (answerBelow seqOn (sampleAt (trace .controls) (trace .words)) n)) (sym ends) (one-burst-says seqOn (trace .controls) (trace .words) n);
     }
 
 pub as-one-burst : AsOneBurst

@@ -7,20 +7,18 @@ use mathlib.Core.Bool.{Bool, true, false, cond, not, _&&_}
 use mathlib.Core.List.{List}
 use mathlib.Core.Option.{Option, none, some}
 use mathlib.Core.Path.{_≡_, refl, sym, _∙_, ap}
-use lib.Dec.{eqb}
-use lib.ListN.{getD}
 use Rattle.signals.specs.Judging.{Finding, clean, broken, found, countBelow, findingBelow}
 use Rattle.signals.specs.Payloads.{zeros, samePayload}
-use Rattle.signals.specs.Stream.{Sample, sample, sampleAt, handshake}
+use Rattle.signals.specs.Stream.{Sample, sample, sampleAt}
 use Rattle.signals.specs.Tables.{Row, firstOf}
 use Rattle.signals.specs.Written.{RuleName}
 use Rattle.signals.specs.declared.Payload.{Payload}
-use Rattle.stream_checker.specs.Rules.{stalled, breaksHeld, breaksStable, counter, afterCounter, carriesCounter, inOrder}
-use Rattle.stream_checker.specs.Step.{before, breaksSeqAfter, rulesAfter, next, watchAfter, rulesFrom}
-use Rattle.stream_checker.specs.Verdicts.{handshakeAt}
+use Rattle.stream_checker.specs.Rules.{stalled, breaksHeld, breaksStable, inOrder, unlessClear}
+use Rattle.stream_checker.specs.Step.{before, breaksSeqAfter, rulesAfter, watchAfter, rulesFrom}
+use Rattle.stream_checker.specs.Verdicts.{handshakeAt, clearAt}
 use Rattle.stream_checker.specs.declared.watch.Watch.{Watch}
 use Rattle.monitor.specs.declared.Monitor.{Monitor}
-use Rattle.monitor.specs.Cycle.{lastSeen, rulesNext, passed, judgedNext, oneMore, afterCycles}
+use Rattle.monitor.specs.Cycle.{lastSeen, rulesNext, judgedNext, oneMore, afterCycles}
 use Rattle.monitor.specs.Step.{watchOf, kept, stillBroken, brokenIn}
 use Rattle.monitor.proofs.Legal.{Clean, Broken}
 use Rattle.monitor.proofs.Stall.{stall-sample}
@@ -36,13 +34,15 @@ stable-alike true valid p q = refl
 stable-alike false valid p q = refl
 
 -- one step of a watch, as its record takes it
-module _ (seqOn : Bool) (cycles handshakes : ℕ) (w : Watch) where
-  rules-alike : (now : Sample) → rulesNext (kept seqOn cycles handshakes w) now ≡ rulesAfter w now seqOn
+module _ (seqOn : Bool) (cycles handshakes clears : ℕ) (w : Watch) where
+  rules-alike : (now : Sample) → rulesNext (kept seqOn cycles handshakes clears w) now ≡ rulesAfter w now seqOn
   rules-alike now =
       let s = stalled (before w) in
-      let m = kept seqOn cycles handshakes w in
-      ap (λ (b : Bool). inOrder seqOn b (breaksStable (lastSeen m) now) (breaksSeqAfter w now)) (held-alike s (now .valid))
-      ∙ ap (λ (b : Bool). inOrder seqOn (breaksHeld (before w) now) b (breaksSeqAfter w now)) (stable-alike s (now .valid) (before w .payload) (now .payload))
+      let m = kept seqOn cycles handshakes clears w in
+      let stable = stable-alike s (now .valid) (before w .payload) (now .payload) in
+      ap (unlessClear now)
+      (ap (λ (b : Bool). inOrder seqOn b (breaksStable (lastSeen m) now) (breaksSeqAfter w now)) (held-alike s (now .valid))
+      ∙ ap (λ (b : Bool). inOrder seqOn (breaksHeld (before w) now) b (breaksSeqAfter w now)) stable)
 
 -- the last cycle, taken from a record and put back
 module _ (p : Payload) where
@@ -58,7 +58,7 @@ module _ (p : Payload) where
   payload-back false z = sym (z refl)
 
 -- the record of the watch that a clean record gives is that record
-kept-back : (m : Monitor) → Clean m → kept (m .seq) (m .cycles) (m .handshakes) (watchOf m) ≡ m
+kept-back : (m : Monitor) → Clean m → kept (m .seq) (m .cycles) (m .handshakes) (m .clears) (watchOf m) ≡ m
 kept-back m c =
     λ i. record {
       seq = m .seq;
@@ -67,6 +67,7 @@ kept-back m c =
       rule = sym (c .rule) i;
       cycle = sym (c .cycle) i;
       handshakes = m .handshakes;
+      clears = m .clears;
       stalled = stall-back (m .payload) (m .stalled) i;
       payload = payload-back (m .payload) (m .stalled) (c .unstalled) i;
       counted = m .counted;
@@ -80,37 +81,50 @@ module _ (m : Monitor) (controls words : List ℕ) where
   abbrev rules : ℕ → List (Row RuleName)
   rules = rulesFrom (watchOf m) controls words (m .seq)
 
+  -- the counts after n cycles in which nothing is found
+  abbrev handshakes-in : ℕ → ℕ
+  handshakes-in n = m .handshakes + countBelow (handshakeAt trace) n
+
+  abbrev clears-in : ℕ → ℕ
+  clears-in n = m .clears + countBelow (clearAt trace) n
+
+  -- the watch after them, and the record that is kept of it
+  abbrev watch-in : ℕ → Watch
+  watch-in n = watchAfter (m .seq) (watchOf m) controls words n
+
+  abbrev kept-in : ℕ → Monitor
+  kept-in n = kept (m .seq) (m .cycles + n) (handshakes-in n) (clears-in n) (watch-in n)
+
   -- the record after n cycles, by what is found in them
   abbrev pub Stands : ℕ → Finding RuleName → Monitor → Type 0
-  Stands n clean r = r ≡ kept (m .seq) (m .cycles + n) (m .handshakes + countBelow (handshakeAt trace) n) (watchAfter (m .seq) (watchOf m) controls words n)
-  Stands n (broken rule c) r = r ≡ brokenIn m (m .cycles + n) (m .handshakes + countBelow (handshakeAt trace) c) rule c
+  Stands n clean r = r ≡ kept-in n
+  Stands n (broken rule c) r = r ≡ brokenIn m (m .cycles + n) (handshakes-in c) (clears-in c) rule c
+
+  -- one cycle more is seen, and added to a count if it is one of those
+  seen-more : (n : ℕ) → m .cycles + n + 1 ≡ m .cycles + suc n
+  seen-more n = omega arith
+
+  counted-more : (has : ℕ → Bool) (before n : ℕ) → before + countBelow has n + cond (has n) 1 0 ≡ before + countBelow has (suc n)
+  counted-more has before n = omega arith
+
+  -- the next cycle of the clean record is judged by what the watch finds
+  judged-in : (n : ℕ) (o : Option RuleName) (r : Monitor) → firstOf (rules n) ≡ o → r ≡ kept-in n → oneMore r (trace n) ≡ judgedNext (kept-in n) (trace n) o
+  judged-in n o r e s =
+      ap (λ (x : Monitor). oneMore x (trace n)) s
+      ∙ ap (judgedNext (kept-in n) (trace n)) (ap firstOf (rules-alike (m .seq) (m .cycles + n) (handshakes-in n) (clears-in n) (watch-in n) (trace n)) ∙ e)
 
   stands-next : (n : ℕ) (f : Finding RuleName) (o : Option RuleName) (r : Monitor) → firstOf (rules n) ≡ o → Stands n f r → Stands (suc n) (found f o n) (oneMore r (trace n))
   stands-next n clean none r e s =
-      let w = watchAfter (m .seq) (watchOf m) controls words n in
-      let hs = countBelow (handshakeAt trace) n in
-      let k = kept (m .seq) (m .cycles + n) (m .handshakes + hs) w in
-      let one : ℕ = cond (handshakeAt trace n) 1 0 in
-      let seen : m .cycles + n + 1 ≡ m .cycles + suc n = omega arith in
-      let counted : m .handshakes + hs + one ≡ m .handshakes + (hs + one) = omega arith in
-      ap (λ (x : Monitor). oneMore x (trace n)) s
-      ∙ ap (judgedNext k (trace n)) (ap firstOf (rules-alike (m .seq) (m .cycles + n) (m .handshakes + hs) w (trace n)) ∙ e)
-      ∙ (λ i. kept (m .seq) (seen i) (counted i) (next (m .seq) w (getD controls n 0) (getD words n 0)))
+      judged-in n none r e s
+      ∙ (λ i. kept (m .seq) (seen-more n i) (counted-more (handshakeAt trace) (m .handshakes) n i) (counted-more (clearAt trace) (m .clears) n i)
+      (watch-in (suc n)))
   stands-next n clean (some rule) r e s =
-      let w = watchAfter (m .seq) (watchOf m) controls words n in
-      let hs = countBelow (handshakeAt trace) n in
-      let k = kept (m .seq) (m .cycles + n) (m .handshakes + hs) w in
-      let seen : m .cycles + n + 1 ≡ m .cycles + suc n = omega arith in
-      ap (λ (x : Monitor). oneMore x (trace n)) s
-      ∙ ap (judgedNext k (trace n)) (ap firstOf (rules-alike (m .seq) (m .cycles + n) (m .handshakes + hs) w (trace n)) ∙ e)
-      ∙ ap (λ (c : ℕ). brokenIn m c (m .handshakes + hs) rule n) seen
+      judged-in n (some rule) r e s ∙ ap (λ (c : ℕ). brokenIn m c (handshakes-in n) (clears-in n) rule n) (seen-more n)
   stands-next n (broken rule c) o r e s =
-      let seen : m .cycles + n + 1 ≡ m .cycles + suc n = omega arith in
-      ap (λ (x : Monitor). oneMore x (trace n)) s
-      ∙ ap (λ (k : ℕ). brokenIn m k (m .handshakes + countBelow (handshakeAt trace) c) rule c) seen
+      ap (λ (x : Monitor). oneMore x (trace n)) s ∙ ap (λ (k : ℕ). brokenIn m k (handshakes-in c) (clears-in c) rule c) (seen-more n)
 
   pub stands : Clean m → (n : ℕ) → Stands n (findingBelow rules n) (afterCycles m trace n)
-  stands c zero = sym (rw (add-zero (m .cycles), add-zero (m .handshakes)) (kept-back m c))
+  stands c zero = sym (rw (add-zero (m .cycles), add-zero (m .handshakes), add-zero (m .clears)) (kept-back m c))
   stands c (suc n) = stands-next n (findingBelow rules n) (firstOf (rules n)) (afterCycles m trace n) refl (stands c n)
 
   -- a record that is broken stays so, and only the cycles grow
@@ -123,12 +137,10 @@ module _ (m : Monitor) (controls words : List ℕ) where
         rule = m .rule;
         cycle = m .cycle;
         handshakes = m .handshakes;
+        clears = m .clears;
         stalled = b .unstalled i;
         payload = b .payload i;
         counted = b .uncounted i;
         due = b .due i;
       }
-  stays b (suc n) =
-      let seen : m .cycles + n + 1 ≡ m .cycles + suc n = omega arith in
-      ap (λ (x : Monitor). oneMore x (trace n)) (stays b n)
-      ∙ ap (stillBroken m) seen
+  stays b (suc n) = ap (λ (x : Monitor). oneMore x (trace n)) (stays b n) ∙ ap (stillBroken m) (seen-more n)

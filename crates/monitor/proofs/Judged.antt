@@ -11,8 +11,8 @@ use Rattle.signals.specs.Judging.{Finding, clean, broken, countBelow, findingBe
 use Rattle.signals.specs.Stream.{sampleAt}
 use Rattle.signals.specs.Written.{RuleName}
 use Rattle.stream_checker.specs.Step.{watchAfter, rulesFrom, sightBelow, findingOf, sightOf}
-use Rattle.stream_checker.specs.Step.Sight.{finding, handshakes, watch}
-use Rattle.stream_checker.specs.Verdicts.{handshakeAt}
+use Rattle.stream_checker.specs.Step.Sight.{finding, handshakes, clears, watch}
+use Rattle.stream_checker.specs.Verdicts.{handshakeAt, clearAt}
 use Rattle.stream_checker.specs.Written.{ruleName}
 use Rattle.stream_checker.specs.declared.Found.the-variants.{NoBreach, First}
 use Rattle.stream_checker.specs.declared.Rule.{Rule}
@@ -38,10 +38,11 @@ module _ (m : Monitor) (c : Clean m) (seen : Seen) (w : Watch) (is-watch : w ≡
   sees-from : sightOf seen ≡ sightBelow (watchOf m) controls words (m .seq) (length controls)
   sees-from = sees-all seen w controls words (m .seq) same sees ∙ ap (λ (v : Watch). sightBelow v controls words (m .seq) (length controls)) is-watch
 
-  -- what is found, and the count and the watch before it
+  -- what is found, and the counts and the watch before it
   record Told (f : Finding RuleName) : Type 0 where
     record-is : Stands m controls words (length controls) f (afterCycles m (sampleAt controls words) (length controls))
     counted : seen .handshakes ≡ countBelow (handshakeAt (sampleAt controls words)) (cyclesCounted f (length controls))
+    cleared : seen .clears ≡ countBelow (clearAt (sampleAt controls words)) (cyclesCounted f (length controls))
     watched : seen .watch ≡ watchAfter (m .seq) (watchOf m) controls words (cyclesCounted f (length controls))
 
   told : (f : Finding RuleName) → findingOf (seen .found) ≡ f → Told f
@@ -50,19 +51,24 @@ module _ (m : Monitor) (c : Clean m) (seen : Seen) (w : Watch) (is-watch : w ≡
       record {
         record-is = rw is-found at (stands m controls words c (length controls));
         counted = rw is-found at (ap handshakes sees-from);
+        cleared = rw is-found at (ap clears sees-from);
         watched = rw is-found at (ap watch sees-from);
       }
 
   pub clean-after :
       seen .found ≡ NoBreach →
-      kept (m .seq) (m .cycles + length controls) (m .handshakes + seen .handshakes) (seen .watch) ≡ afterCycles m (sampleAt controls words) (length controls)
+      kept (m .seq) (m .cycles + length controls) (m .handshakes + seen .handshakes) (m .clears + seen .clears) (seen .watch)
+      ≡ afterCycles m (sampleAt controls words) (length controls)
   clean-after e =
       let t = told clean (ap findingOf e) in
-      (λ i. kept (m .seq) (m .cycles + length controls) (m .handshakes + t .counted i) (t .watched i)) ∙ sym (t .record-is)
+      (λ i. kept (m .seq) (m .cycles + length controls) (m .handshakes + t .counted i) (m .clears + t .cleared i) (t .watched i))
+      ∙ sym (t .record-is)
 
   pub broken-after :
       (rule : Rule) (b : ℕ) → seen .found ≡ First rule b →
-      brokenIn m (m .cycles + length controls) (m .handshakes + seen .handshakes) (ruleName rule) b ≡ afterCycles m (sampleAt controls words) (length controls)
+      brokenIn m (m .cycles + length controls) (m .handshakes + seen .handshakes) (m .clears + seen .clears) (ruleName rule) b
+      ≡ afterCycles m (sampleAt controls words) (length controls)
   broken-after rule b e =
       let t = told (broken (ruleName rule) b) (ap findingOf e) in
-      ap (λ (h : ℕ). brokenIn m (m .cycles + length controls) (m .handshakes + h) (ruleName rule) b) (t .counted) ∙ sym (t .record-is)
+      (λ i. brokenIn m (m .cycles + length controls) (m .handshakes + t .counted i) (m .clears + t .cleared i) (ruleName rule) b)
+      ∙ sym (t .record-is)

@@ -11,19 +11,19 @@ use lib.Dec.{eqb}
 use lib.ListN.{length, getD}
 use borrow.Author.Tests.{eq-eqb}
 use Rattle.signals.specs.Payloads.{zeros, maxStrb}
-use Rattle.signals.specs.Stream.{Sample, sampleAt, handshake}
-use Rattle.signals.specs.Tables.{firstOf}
+use Rattle.signals.specs.Stream.{Sample, sampleAt, clearCycle, handshake}
+use Rattle.signals.specs.Tables.{Row, firstOf}
 use Rattle.signals.specs.Written.{RuleName, number, seq}
 use Rattle.signals.specs.declared.Payload.{Payload}
 use Rattle.signals.specs.declared.Refusal.{Refusal}
 use Rattle.signals.proofs.Bools.{both, clash}
-use Rattle.stream_checker.specs.Rules.{stalled, breaksHeld, breaksStable, counters, counter, afterCounter, carriesCounter, inOrder}
+use Rattle.stream_checker.specs.Rules.{stalled, breaksHeld, breaksStable, counters, counter, afterCounter, carriesCounter, inOrder, unlessClear}
 use Rattle.monitor.specs.declared.Monitor.{Monitor}
 use Rattle.monitor.specs.Bursts.{grounds, unlessRefused, fedBy}
 use Rattle.monitor.specs.Cycle.{lastSeen, notDue, rulesNext, passed, brokenBy, seenOnly, judgedNext, oneMore, afterCycles}
 use Rattle.monitor.specs.Record.{fresh, legal}
 use Rattle.monitor.specs.Theorems.{Burst, after, EachBelow, Recorded, Reached}
-use Rattle.monitor.proofs.Legal.{Clean, By, Broken, handshakes-among, legal-says, clean-legal, broken-legal}
+use Rattle.monitor.proofs.Legal.{Clean, By, Broken, counts-among, legal-says, clean-legal, broken-legal}
 
 -- a fresh record is legal
 pub fresh-legal : (s : Bool) → legal (fresh s) ≡ true
@@ -35,6 +35,14 @@ data FirstBroken (seqOn held stable sequence : Bool) : RuleName → Type 0 where
   is-held : held ≡ true → FirstBroken seqOn held stable sequence (number 4)
   is-stable : stable ≡ true → FirstBroken seqOn held stable sequence (number 2)
   is-seq : seqOn ≡ true → sequence ≡ true → FirstBroken seqOn held stable sequence seq
+
+-- a rule that is broken is broken by its table: in a clear cycle there is none
+judged-there : (now : Sample) (rows : List (Row RuleName)) (r : RuleName) → firstOf (unlessClear now rows) ≡ some r → firstOf rows ≡ some r
+judged-there now rows r e = there (clearCycle now) e
+  where
+    there : (clear : Bool) → firstOf (cond clear [] rows) ≡ some r → firstOf rows ≡ some r
+    there true q = absurd (clash cc)
+    there false q = q
 
 -- what tells that a rule is the first
 first-broken :
@@ -51,31 +59,46 @@ shown-strb : (b : Bool) (p : Payload) → p .strb ≤ maxStrb → (cond b p zero
 shown-strb true p h = h
 shown-strb false p h = omega arith
 
--- the counter that is due is in its range, whether it is set or stays
-due-below : (b : Bool) (n due : ℕ) → due < counters → cond b (afterCounter n) due < counters
-due-below true n due h = omega arith
-due-below false n due h = h
+-- the counter that is due is in its range, whether it is dropped, set or stays
+due-below : (clear carries : Bool) (n due : ℕ) → due < counters → cond clear 0 (cond carries (afterCounter n) due) < counters
+due-below true carries n due h = omega arith
+due-below false true n due h = omega arith
+due-below false false n due h = h
 
--- where no counter came, now or before, none is due
-due-with : (b counted : Bool) (n due : ℕ) → (counted ≡ false → due ≡ 0) → cond b true counted ≡ false → cond b n due ≡ 0
-due-with true counted n due h e = absurd (false≢true (sym e))
-due-with false counted n due h e = h e
+-- where no counter is kept, none is due
+due-with :
+    (clear carries counted : Bool) (n due : ℕ) →
+    (counted ≡ false → due ≡ 0) → cond clear false (cond carries true counted) ≡ false → cond clear 0 (cond carries n due) ≡ 0
+due-with true carries counted n due h e = refl
+due-with false true counted n due h e = absurd (false≢true (sym e))
+due-with false false counted n due h e = h e
 
--- a counter that came did so now or before
-now-or-before : (b counted : Bool) → cond b true counted ≡ true → (b ≡ true) ⊎ (counted ≡ true)
-now-or-before true counted e = inl refl
-now-or-before false counted e = inr e
+-- a counter that is kept came now or before
+now-or-before : (clear carries counted : Bool) → cond clear false (cond carries true counted) ≡ true → (carries ≡ true) ⊎ (counted ≡ true)
+now-or-before true carries counted e = absurd (false≢true e)
+now-or-before false true counted e = inl refl
+now-or-before false false counted e = inr e
 
--- a stalled cycle is no handshake
-no-handshake : (valid ready : Bool) → valid && not ready ≡ true → valid && ready ≡ false
-no-handshake true true e = sym e
-no-handshake true false e = refl
-no-handshake false ready e = refl
+-- a record without a counter stays so where none comes, in a clear cycle or another
+none-kept : (clear counted : Bool) → counted ≡ false → cond clear false counted ≡ false
+none-kept true counted e = refl
+none-kept false counted e = e
 
--- a cycle is at most one handshake
-at-most-one : (b : Bool) → cond b 1 0 ≤ 1
-at-most-one true = omega arith
-at-most-one false = omega arith
+-- what a cycle adds to both counts together: if it stalled nothing, and else at most one
+abbrev added : (clear valid ready : Bool) → ℕ
+added clear valid ready = cond (not clear && (valid && ready)) 1 0 + cond clear 1 0
+
+stall-adds-none : (clear valid ready : Bool) → not clear && (valid && not ready) ≡ true → added clear valid ready ≡ 0
+stall-adds-none true valid ready e = absurd (false≢true e)
+stall-adds-none false true true e = absurd (false≢true e)
+stall-adds-none false true false e = refl
+stall-adds-none false false ready e = refl
+
+adds-at-most-one : (clear valid ready : Bool) → added clear valid ready ≤ 1
+adds-at-most-one true valid ready = omega arith
+adds-at-most-one false true true = omega arith
+adds-at-most-one false true false = omega arith
+adds-at-most-one false false ready = omega arith
 
 module _ (m : Monitor) where
   -- the first rule that the next cycle breaks
@@ -92,7 +115,7 @@ module _ (m : Monitor) where
   broken-by c now r (is-stable e) = inl (record { rule = inr refl; before = c .stalled-among (was-stalled _ e) })
   broken-by c now r (is-seq on e) =
       let counted = both (m .counted) _ (both (carriesCounter now) _ e .1) .0 in
-      inr (record { rule = refl; switched = on; carried = c .carried counted; before = handshakes-among m c })
+      inr (record { rule = refl; switched = on; carried = c .carried counted; before = counts-among m c })
 
   -- a breach leaves a broken record
   breach-broken : Clean m → (now : Sample) (r : RuleName) → BreachNext now r → Broken (brokenBy m r)
@@ -128,13 +151,14 @@ module _ (m : Monitor) where
         rule = refl;
         cycle = refl;
         strb = shown-strb (stalled now) (now .payload) h;
-        due = due-below (m .seq && carriesCounter now) (counter now) (m .due) (c .due);
+        due = due-below (clearCycle now) (m .seq && carriesCounter now) (counter now) (m .due) (c .due);
         unstalled = λ e. rw e;
-        uncounted = due-with (m .seq && carriesCounter now) (m .counted) _ (m .due) (c .uncounted);
-        unswitched = λ e. rw e (c .unswitched e);
-        stalled-among = λ e. let n = no-handshake (now .valid) (now .ready) e in rw n (omega (arith, handshakes-among m c));
-        among = λ e. omega (arith, handshakes-among m c, at-most-one (handshake now));
-        carried = λ e. ⊎-elim carries (λ t. let f = c .carried t in omega arith) (now-or-before (m .seq && carriesCounter now) (m .counted) e);
+        uncounted = due-with (clearCycle now) (m .seq && carriesCounter now) (m .counted) _ (m .due) (c .uncounted);
+        unswitched = λ e. rw e (none-kept (clearCycle now) (m .counted) (c .unswitched e));
+        stalled-among = λ e. omega (arith, counts-among m c, stall-adds-none (now .clear) (now .valid) (now .ready) e);
+        among = λ e. omega (arith, counts-among m c, adds-at-most-one (now .clear) (now .valid) (now .ready));
+        carried = λ e.
+            ⊎-elim carries (λ t. let f = c .carried t in omega arith) (now-or-before (clearCycle now) (m .seq && carriesCounter now) (m .counted) e);
       }
     where
       carries : m .seq && carriesCounter now ≡ true → 0 < m .handshakes + cond (handshake now) 1 0
@@ -152,7 +176,7 @@ module _ (m : Monitor) where
       Clean m → (now : Sample) → now .payload .strb ≤ maxStrb →
       (breach : Option RuleName) → firstOf (rulesNext m now) ≡ breach → legal (judgedNext m now breach) ≡ true
   judged-legal c now h none e = clean-legal _ (passed-clean c now h)
-  judged-legal c now h (some r) e = broken-legal _ (breach-broken c now r (first-broken _ _ _ _ r e))
+  judged-legal c now h (some r) e = broken-legal _ (breach-broken c now r (first-broken _ _ _ _ r (judged-there now _ r e)))
 
   -- one more cycle keeps a record legal
   next-legal : (now : Sample) → now .payload .strb ≤ maxStrb → legal m ≡ true → legal (oneMore m now) ≡ true

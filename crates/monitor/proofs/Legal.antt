@@ -10,11 +10,11 @@ use Rattle.signals.specs.declared.Payload.{Payload}
 use Rattle.signals.proofs.Bools.{either}
 use Rattle.stream_checker.specs.Rules.{counters}
 use Rattle.monitor.specs.declared.Monitor.{Monitor}
-use Rattle.monitor.specs.Record.{inRange, inPlace, cleanForm, brokenForm, legal}
+use Rattle.monitor.specs.Record.{inRange, inPlace, handshakesAndClears, cleanForm, brokenForm, legal}
 use Rattle.monitor.proofs.Tells.{Tells, tells-eq, tells-le, tells-lt, tells-on, tells-off, tells-and, tells-or, tells-by, tells-unless, tells-where}
 
--- A clean record. Numbers are in their ranges, and nothing is kept beside a flag that is off; the handshakes are among the
--- cycles, of which a stalled one is none; and a counter came with a handshake.
+-- A clean record. Numbers are in their ranges, and nothing is kept beside a flag that is off; the handshakes and the clear
+-- cycles are together among the cycles, of which a stalled one is neither; and a counter came with a handshake.
 pub record Clean (m : Monitor) : Type 0 where
   pub verdict : m .verdict ≡ 1
   pub rule : m .rule ≡ 0
@@ -24,29 +24,29 @@ pub record Clean (m : Monitor) : Type 0 where
   pub unstalled : m .stalled ≡ false → m .payload ≡ zeros
   pub uncounted : m .counted ≡ false → m .due ≡ 0
   pub unswitched : m .seq ≡ false → m .counted ≡ false
-  pub stalled-among : m .stalled ≡ true → m .handshakes < m .cycles
-  pub among : m .stalled ≡ false → m .handshakes ≤ m .cycles
+  pub stalled-among : m .stalled ≡ true → handshakesAndClears m < m .cycles
+  pub among : m .stalled ≡ false → handshakesAndClears m ≤ m .cycles
   pub carried : m .counted ≡ true → 0 < m .handshakes
 
--- the handshakes are among the cycles, stalled or not
-pub handshakes-among : (m : Monitor) → Clean m → m .handshakes ≤ m .cycles
-handshakes-among m c = ⊎-elim (λ t. let h = c .stalled-among t in omega arith) (c .among) (either (m .stalled))
+-- both counts are together among the cycles, stalled or not
+pub counts-among : (m : Monitor) → Clean m → handshakesAndClears m ≤ m .cycles
+counts-among m c = ⊎-elim (λ t. let h = c .stalled-among t in omega arith) (c .among) (either (m .stalled))
 
--- broken by rule 4 or 2, after a stalled cycle
-pub record AfterStall (number cycle handshakes : ℕ) : Type 0 where
+-- broken by rule 4 or 2, after a stalled cycle; both counts are given together
+pub record AfterStall (number cycle counts : ℕ) : Type 0 where
   pub rule : (number ≡ 4) ⊎ (number ≡ 2)
-  pub before : handshakes < cycle
+  pub before : counts < cycle
 
 -- broken by rule seq, after a counter
-pub record BySeq (seqOn : Bool) (number cycle handshakes : ℕ) : Type 0 where
+pub record BySeq (seqOn : Bool) (number cycle handshakes counts : ℕ) : Type 0 where
   pub rule : number ≡ 100
   pub switched : seqOn ≡ true
   pub carried : 0 < handshakes
-  pub before : handshakes ≤ cycle
+  pub before : counts ≤ cycle
 
 -- by one of the two
 abbrev pub By : Monitor → Type 0
-By m = AfterStall (m .rule) (m .cycle) (m .handshakes) ⊎ BySeq (m .seq) (m .rule) (m .cycle) (m .handshakes)
+By m = AfterStall (m .rule) (m .cycle) (handshakesAndClears m) ⊎ BySeq (m .seq) (m .rule) (m .cycle) (m .handshakes) (handshakesAndClears m)
 
 -- a broken record
 pub record Broken (m : Monitor) : Type 0 where
@@ -69,13 +69,14 @@ InPlace m =
 abbrev CleanForm : Monitor → Type 0
 CleanForm m =
     ((m .rule ≡ 0) × (m .cycle ≡ 0))
-    × (((m .stalled ≡ true → m .handshakes < m .cycles) × (m .stalled ≡ false → m .handshakes ≤ m .cycles)) × (m .counted ≡ true → 0 < m .handshakes))
+    × (((m .stalled ≡ true → handshakesAndClears m < m .cycles) × (m .stalled ≡ false → handshakesAndClears m ≤ m .cycles))
+    × (m .counted ≡ true → 0 < m .handshakes))
 
 abbrev StallForm : Monitor → Type 0
-StallForm m = ((m .rule ≡ 4) ⊎ (m .rule ≡ 2)) × (m .handshakes < m .cycle)
+StallForm m = ((m .rule ≡ 4) ⊎ (m .rule ≡ 2)) × (handshakesAndClears m < m .cycle)
 
 abbrev SeqForm : Monitor → Type 0
-SeqForm m = (m .rule ≡ 100) × ((m .seq ≡ true) × ((0 < m .handshakes) × (m .handshakes ≤ m .cycle)))
+SeqForm m = (m .rule ≡ 100) × ((m .seq ≡ true) × ((0 < m .handshakes) × (handshakesAndClears m ≤ m .cycle)))
 
 abbrev BrokenForm : Monitor → Type 0
 BrokenForm m = ((m .cycle < m .cycles) × ((m .stalled ≡ false) × (m .counted ≡ false))) × (StallForm m ⊎ SeqForm m)

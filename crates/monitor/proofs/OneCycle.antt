@@ -9,7 +9,7 @@ use mathlib.Core.Option.{Option}
 use mathlib.Core.Path.{_≡_, refl, _∙_, ap, subst}
 use borrow.Author.Tests.{le-ltb}
 use Rattle.signals.specs.Refusals.{accepts, refusalOf}
-use Rattle.signals.specs.Stream.{sample, reservedBits}
+use Rattle.signals.specs.Stream.{sample, reservedBit}
 use Rattle.signals.specs.declared.Outcome.the-variants.{Accepted}
 use Rattle.signals.specs.declared.Refusal.{Refusal}
 use Rattle.signals.proofs.Judging.{before-or-last}
@@ -47,9 +47,9 @@ abbrev cycleOf : (control word : ℕ) → Burst
 cycleOf control word = record { controls = control ∷ []; words = word ∷ [] }
 
 module _ (m : Monitor) (control word : ℕ) where
-  -- no ground against it: the record is legal, has room for a cycle, and the byte has no reserved bit
+  -- no ground against it: the record is legal, has room for a cycle, and the byte's reserved bit is 0
   cycle-fed :
-      legal m ≡ true → m .cycles < maxSeen → reservedBits control ≡ false →
+      legal m ≡ true → m .cycles < maxSeen → reservedBit control ≡ false →
       fedBy m (control ∷ []) (word ∷ []) ≡ record { monitor = oneMore m (sample control word); outcome = Accepted }
   unfolding fedBy
   cycle-fed e room bits =
@@ -59,7 +59,7 @@ module _ (m : Monitor) (control word : ℕ) where
   -- what one cycle more makes of a record that bursts lead to, bursts lead to
   pub reached-next :
       (next : Monitor) → oneMore m (sample control word) ≡ next → control < 256 → word < 2 ^ 32 →
-      reservedBits control ≡ false → m .cycles < maxSeen → Reached m → Reached next
+      reservedBit control ≡ false → m .cycles < maxSeen → Reached m → Reached next
   reached-next next is-next below fits bits room r =
       let fed = cycle-fed (reached-legal m r) room bits in
       let one = cycleOf control word ∷ [] in
@@ -74,8 +74,9 @@ module _ (m : Monitor) (control word : ℕ) where
 pub fresh-reached : (s : Bool) → Reached (fresh s)
 fresh-reached s = record { seqOn = s; bursts = []; recorded = tt; none-refused = refl; leads = refl }
 
--- what each cycle more keeps, as long as a record may see more, holds of every later one
-pub later : (P : ℕ → Type 0) → ((c : ℕ) → c < maxSeen → P c → P (suc c)) → (a b : ℕ) → a ≤ b → b ≤ maxSeen → P a → P b
-later P next a zero h room p = subst P (omega arith) p
-later P next a (suc b) h room p =
-    ⊎-elim (λ l. next b room (later P next a b (omega arith) (omega arith) p)) (λ e. subst P e p) (before-or-last a (suc b) (omega arith))
+-- what holds of a, and below b is handed on from each number to the next, holds of b
+pub later : (P : ℕ → Type 0) → (a b : ℕ) → ((n : ℕ) → n < b → P n → P (suc n)) → a ≤ b → P a → P b
+later P a zero next h p = subst P (omega arith) p
+later P a (suc b) next h p =
+    ⊎-elim (λ l. next b (omega arith) (later P a b (λ n below. next n (omega arith)) (omega arith) p)) (λ e. subst P e p)
+    (before-or-last a (suc b) (omega arith))

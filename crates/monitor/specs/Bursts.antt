@@ -1,4 +1,4 @@
--- Request T-05: a burst, the grounds for refusing it, and the record after it. Assumes nothing.
+-- Requests T-05 and T-09: a burst, the grounds for refusing it, and the record after it. Assumes nothing.
 use Prim.Native.Nat.{ℕ, _+_}
 use mathlib.Core.Bool.{not}
 use mathlib.Core.List.{List, [], _∷_}
@@ -6,7 +6,7 @@ use mathlib.Core.Option.{Option, none, some}
 use lib.Dec.{eqb, ltb}
 use lib.ListN.{length}
 use Rattle.signals.specs.Refusals.{anyOf}
-use Rattle.signals.specs.Stream.{sampleAt, reservedBits}
+use Rattle.signals.specs.Stream.{sampleAt, reservedBit}
 use Rattle.signals.specs.Tables.{Row, _⇐_, firstOf}
 use Rattle.signals.specs.declared.Outcome.the-variants.{Accepted, Refused}
 use Rattle.signals.specs.declared.Refusal.{Refusal}
@@ -26,7 +26,7 @@ grounds m controls words =
     LengthsDiffer ⇐ not (eqb (length controls) (length words))
     ∷ TooLong ⇐ ltb maxSeen (m .cycles + length controls)
     ∷ BadState ⇐ not (legal m)
-    ∷ IllegalBits ⇐ anyOf reservedBits controls
+    ∷ IllegalBits ⇐ anyOf reservedBit controls
     ∷ []
 
 -- the record is the next, or, where there is a ground, the one before

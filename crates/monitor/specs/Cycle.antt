@@ -1,4 +1,4 @@
--- Request T-05, over "Stream rules" of document 01: the record after one more cycle, and after more. Assumes nothing.
+-- Requests T-05 and T-09, over "Stream rules" of document 01: the record after one more cycle, and after more. Assumes nothing.
 use Prim.Native.Nat.{ℕ, zero, suc, _+_}
 use mathlib.Core.Bool.{Bool, true, false, cond, not, _&&_}
 use mathlib.Core.List.{List}
@@ -6,26 +6,28 @@ use mathlib.Core.Option.{Option, none, some}
 use lib.Dec.{eqb}
 use Rattle.signals.specs.Numbers.{ruleNumber}
 use Rattle.signals.specs.Payloads.{zeros}
-use Rattle.signals.specs.Stream.{Sample, handshake}
+use Rattle.signals.specs.Stream.{Sample, clearCycle, handshake}
 use Rattle.signals.specs.Tables.{Row, firstOf}
 use Rattle.signals.specs.Written.{RuleName}
-use Rattle.stream_checker.specs.Rules.{stalled, breaksHeld, breaksStable, counter, afterCounter, carriesCounter, inOrder}
+use Rattle.stream_checker.specs.Rules.{stalled, breaksHeld, breaksStable, counter, afterCounter, carriesCounter, inOrder, unlessClear}
 use Rattle.monitor.specs.declared.Monitor.{Monitor}
 
 -- the last cycle, as far as the next is judged by it: stalled with its payload, or not stalled
 abbrev pub lastSeen : Monitor → Sample
-lastSeen m = record { valid = m .stalled; ready = false; payload = m .payload }
+lastSeen m = record { valid = m .stalled; ready = false; clear = false; payload = m .payload }
 
--- a counter that is not the one due; where none was carried before, any is
+-- a counter that is not the one due; where none was carried since the last clear cycle, any is
 abbrev pub notDue : Monitor → ℕ → Bool
 notDue m n = m .counted && not (eqb n (m .due))
 
--- the rules in the next cycle
+-- the rules in the next cycle; a clear cycle is not judged
 abbrev pub rulesNext : Monitor → Sample → List (Row RuleName)
 rulesNext m now =
-    inOrder (m .seq) (breaksHeld (lastSeen m) now) (breaksStable (lastSeen m) now) (carriesCounter now && notDue m (counter now))
+    unlessClear now
+    (inOrder (m .seq) (breaksHeld (lastSeen m) now) (breaksStable (lastSeen m) now) (carriesCounter now && notDue m (counter now)))
 
--- a cycle that breaks no rule: it is counted if it is a handshake, kept if it stalled, and its counter, where seq is on, sets the next
+-- a cycle that breaks no rule: it is counted if it is a handshake or a clear cycle, kept if it stalled, and its counter, where seq is on,
+-- sets the next; after a clear cycle no counter is due
 abbrev pub passed : Monitor → Sample → Monitor
 passed m now =
     record {
@@ -35,13 +37,14 @@ passed m now =
       rule = 0;
       cycle = 0;
       handshakes = m .handshakes + cond (handshake now) 1 0;
+      clears = m .clears + cond (clearCycle now) 1 0;
       stalled = stalled now;
       payload = cond (stalled now) (now .payload) zeros;
-      counted = cond (m .seq && carriesCounter now) true (m .counted);
-      due = cond (m .seq && carriesCounter now) (afterCounter (counter now)) (m .due);
+      counted = cond (clearCycle now) false (cond (m .seq && carriesCounter now) true (m .counted));
+      due = cond (clearCycle now) 0 (cond (m .seq && carriesCounter now) (afterCounter (counter now)) (m .due));
     }
 
--- a cycle that breaks a rule: the record keeps the rule, the cycle and the handshakes before it, and nothing else
+-- a cycle that breaks a rule: the record keeps the rule, the cycle, and the handshakes and the clear cycles before it, and nothing else
 abbrev pub brokenBy : Monitor → RuleName → Monitor
 brokenBy m rule =
     record {
@@ -51,6 +54,7 @@ brokenBy m rule =
       rule = ruleNumber rule;
       cycle = m .cycles;
       handshakes = m .handshakes;
+      clears = m .clears;
       stalled = false;
       payload = zeros;
       counted = false;
@@ -67,6 +71,7 @@ seenOnly m =
       rule = m .rule;
       cycle = m .cycle;
       handshakes = m .handshakes;
+      clears = m .clears;
       stalled = m .stalled;
       payload = m .payload;
       counted = m .counted;

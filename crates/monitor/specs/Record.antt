@@ -1,5 +1,5 @@
--- Request T-05: a fresh record, and which records bursts can have left (the tests of refusal 6). Assumes nothing.
-use Prim.Native.Nat.{ℕ}
+-- Requests T-05 and T-09: a fresh record, and which records bursts can have left (the tests of refusal 6). Assumes nothing.
+use Prim.Native.Nat.{ℕ, _+_}
 use mathlib.Core.Bool.{Bool, false, cond, not, _&&_, _||_}
 use lib.Dec.{eqb, leb, ltb}
 use Rattle.signals.specs.Payloads.{zeros, legalStrb, samePayload}
@@ -16,6 +16,7 @@ fresh seqOn =
       rule = 0;
       cycle = 0;
       handshakes = 0;
+      clears = 0;
       stalled = false;
       payload = zeros;
       counted = false;
@@ -30,21 +31,25 @@ inRange m = legalStrb (m .payload) && ltb (m .due) counters
 abbrev pub inPlace : Monitor → Bool
 inPlace m = (m .stalled || samePayload (m .payload) zeros) && ((m .counted || eqb (m .due) 0) && (m .seq || not (m .counted)))
 
--- Clean: it has no rule and no cycle; the handshakes, and one more cycle if the last stalled, are among those seen; and a counter came
--- with a handshake.
+-- both counts: no cycle is a handshake and a clear cycle
+abbrev pub handshakesAndClears : Monitor → ℕ
+handshakesAndClears m = m .handshakes + m .clears
+
+-- Clean: it has no rule and no cycle; the handshakes, the clear cycles, and one more cycle if the last stalled, are together among those
+-- seen; and a counter came with a handshake.
 abbrev pub cleanForm : Monitor → Bool
 cleanForm m =
     (eqb (m .rule) 0 && eqb (m .cycle) 0)
-    && (cond (m .stalled) (ltb (m .handshakes) (m .cycles)) (leb (m .handshakes) (m .cycles))
+    && (cond (m .stalled) (ltb (handshakesAndClears m) (m .cycles)) (leb (handshakesAndClears m) (m .cycles))
     && (not (m .counted) || ltb 0 (m .handshakes)))
 
--- broken by rule 4 or 2: of the cycles before the broken one the last stalled, and so was no handshake
+-- broken by rule 4 or 2: of the cycles before the broken one the last stalled, and so was neither a handshake nor a clear cycle
 abbrev pub brokenAfterStall : Monitor → Bool
-brokenAfterStall m = (eqb (m .rule) 4 || eqb (m .rule) 2) && ltb (m .handshakes) (m .cycle)
+brokenAfterStall m = (eqb (m .rule) 4 || eqb (m .rule) 2) && ltb (handshakesAndClears m) (m .cycle)
 
 -- broken by rule seq: it is switched on, and a handshake before the broken cycle carried a counter
 abbrev pub brokenBySeq : Monitor → Bool
-brokenBySeq m = eqb (m .rule) 100 && (m .seq && (ltb 0 (m .handshakes) && leb (m .handshakes) (m .cycle)))
+brokenBySeq m = eqb (m .rule) 100 && (m .seq && (ltb 0 (m .handshakes) && leb (handshakesAndClears m) (m .cycle)))
 
 -- Broken: in a cycle that was seen; and nothing is kept of what the next cycle would be judged by.
 abbrev pub brokenForm : Monitor → Bool

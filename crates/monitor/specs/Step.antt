@@ -34,8 +34,8 @@ abbrev pub payloadKept : Watch → Payload
 payloadKept w = cond (stalled (before w)) (before w .payload) zeros
 
 -- the clean record of a watch
-abbrev pub kept : (seqOn : Bool) → (cycles handshakes : ℕ) → Watch → Monitor
-kept seqOn cycles handshakes w =
+abbrev pub kept : (seqOn : Bool) → (cycles handshakes clears : ℕ) → Watch → Monitor
+kept seqOn cycles handshakes clears w =
     record {
       seq = seqOn;
       cycles = cycles;
@@ -43,6 +43,7 @@ kept seqOn cycles handshakes w =
       rule = 0;
       cycle = 0;
       handshakes = handshakes;
+      clears = clears;
       stalled = stalled (before w);
       payload = payloadKept w;
       counted = w .counted;
@@ -50,8 +51,8 @@ kept seqOn cycles handshakes w =
     }
 
 -- a broken record
-abbrev pub brokenAt : (seqOn : Bool) → (cycles rule cycle handshakes : ℕ) → Monitor
-brokenAt seqOn cycles rule cycle handshakes =
+abbrev pub brokenAt : (seqOn : Bool) → (cycles rule cycle handshakes clears : ℕ) → Monitor
+brokenAt seqOn cycles rule cycle handshakes clears =
     record {
       seq = seqOn;
       cycles = cycles;
@@ -59,6 +60,7 @@ brokenAt seqOn cycles rule cycle handshakes =
       rule = rule;
       cycle = cycle;
       handshakes = handshakes;
+      clears = clears;
       stalled = false;
       payload = zeros;
       counted = false;
@@ -67,8 +69,8 @@ brokenAt seqOn cycles rule cycle handshakes =
 
 -- a broken record that has seen more
 abbrev pub stillBroken : Monitor → (cycles : ℕ) → Monitor
-stillBroken m cycles = brokenAt (m .seq) cycles (m .rule) (m .cycle) (m .handshakes)
+stillBroken m cycles = brokenAt (m .seq) cycles (m .rule) (m .cycle) (m .handshakes) (m .clears)
 
 -- a clean record that is broken in cycle c of a burst
-abbrev pub brokenIn : Monitor → (cycles handshakes : ℕ) → RuleName → (c : ℕ) → Monitor
-brokenIn m cycles handshakes rule c = brokenAt (m .seq) cycles (ruleNumber rule) (m .cycles + c) handshakes
+abbrev pub brokenIn : Monitor → (cycles handshakes clears : ℕ) → RuleName → (c : ℕ) → Monitor
+brokenIn m cycles handshakes clears rule c = brokenAt (m .seq) cycles (ruleNumber rule) (m .cycles + c) handshakes clears

@@ -1,4 +1,4 @@
--- Request T-05: what a record that was fed with bursts says. Three theorems; `proofs/Cutting.antt` and `proofs/Reached.antt` have the
+-- Requests T-05 and T-09: what a record that was fed with bursts says. Three theorems; `proofs/Cutting.antt` and `proofs/Reached.antt` have the
 -- proofs. Assumes nothing.
 use Prim.Native.Nat.{ℕ, _<_, _≤_, _^_}
 use mathlib.Core.Bool.{Bool, true, cond}
@@ -12,10 +12,10 @@ use Rattle.signals.specs.Numbers.{inThree}
 use Rattle.signals.specs.Refusals.{refusalOf, accepts}
 use Rattle.signals.specs.Stream.{sampleAt}
 use Rattle.signals.specs.Tables.{firstOf}
-use Rattle.signals.specs.Written.{RuleName, judged, Judgement}
+use Rattle.signals.specs.Written.{RuleName, judged}
 use Rattle.signals.specs.declared.Outcome.the-variants.{Accepted}
 use Rattle.stream_checker.specs.Verdicts as whole
-use Rattle.stream_checker.specs.Verdicts.{judgedBelow, checkStream}
+use Rattle.stream_checker.specs.Verdicts.{Answer, answerBelow, checkStream}
 use Rattle.monitor.specs.declared.Monitor.{Monitor}
 use Rattle.monitor.specs.Bursts.{maxSeen, fedBy}
 use Rattle.monitor.specs.Record.{fresh, legal}
@@ -43,20 +43,21 @@ joined [] = record { controls = []; words = [] }
 joined (b ∷ bursts) =
     record { controls = b .controls ++ joined bursts .controls; words = b .words ++ joined bursts .words }
 
--- the record says what a judgement says, in numbers
-pub record Says (m : Monitor) (j : Judgement) : Type 0 where
+-- the record says what an answer says, in numbers
+pub record Says (m : Monitor) (answer : Answer) : Type 0 where
   pub found : Finding RuleName
-  pub is-found : j .verdict ≡ judged found
+  pub is-found : answer .judgement .verdict ≡ judged found
   pub verdict : m .verdict ≡ inThree found .verdict
   pub rule : m .rule ≡ inThree found .rule
   pub cycle : m .cycle ≡ inThree found .cycle
-  pub handshakes : m .handshakes ≡ j .handshakes
+  pub handshakes : m .handshakes ≡ answer .judgement .handshakes
+  pub clears : m .clears ≡ answer .clears
 
--- the record stands for a whole trace: the switch, the cycles seen, and the verdict of the checker with its count, without its limit
+-- the record stands for a whole trace: the switch, the cycles seen, and the verdict of the checker with its counts, without its limit
 pub record StandsFor (seqOn : Bool) (trace : Burst) (m : Monitor) : Type 0 where
   pub switch : m .seq ≡ seqOn
   pub seen : m .cycles ≡ length (trace .controls)
-  pub says : Says m (judgedBelow seqOn (sampleAt (trace .controls) (trace .words)) (length (trace .controls)))
+  pub says : Says m (answerBelow seqOn (sampleAt (trace .controls) (trace .words)) (length (trace .controls)))
 
 -- Any cutting: whatever the bursts, the record stands for those that were not refused, one after another.
 abbrev pub AnyCutting : Type 0

@@ -61,8 +61,8 @@ fn payload_kept(watch: Watch) -> Payload
 }
 
 // The record of cycles that break no rule.
-fn clean_record(seq: bool, cycles: u32, handshakes: u32, watch: Watch) -> Monitor
-    ensures { λ r. ⌜ r ≡ kept seq cycles handshakes watch ⌝ }
+fn clean_record(seq: bool, cycles: u32, handshakes: u32, clears: u32, watch: Watch) -> Monitor
+    ensures { λ r. ⌜ r ≡ kept seq cycles handshakes clears watch ⌝ }
 {
     Monitor {
         seq,
@@ -71,6 +71,7 @@ fn clean_record(seq: bool, cycles: u32, handshakes: u32, watch: Watch) -> Monito
         rule: 0,
         cycle: 0,
         handshakes,
+        clears,
         stalled: stalled(watch.control),
         payload: payload_kept(watch),
         counted: watch.counted,
@@ -79,8 +80,15 @@ fn clean_record(seq: bool, cycles: u32, handshakes: u32, watch: Watch) -> Monito
 }
 
 // A record with a breach, which keeps nothing for the next cycle.
-fn broken_record(seq: bool, cycles: u32, rule: u8, cycle: u32, handshakes: u32) -> Monitor
-    ensures { λ r. ⌜ r ≡ brokenAt seq cycles rule cycle handshakes ⌝ }
+fn broken_record(
+    seq: bool,
+    cycles: u32,
+    rule: u8,
+    cycle: u32,
+    handshakes: u32,
+    clears: u32,
+) -> Monitor
+    ensures { λ r. ⌜ r ≡ brokenAt seq cycles rule cycle handshakes clears ⌝ }
 {
     Monitor {
         seq,
@@ -89,6 +97,7 @@ fn broken_record(seq: bool, cycles: u32, rule: u8, cycle: u32, handshakes: u32) 
         rule,
         cycle,
         handshakes,
+        clears,
         stalled: false,
         payload: Payload { data: 0, strb: 0 },
         counted: false,
@@ -100,13 +109,13 @@ fn broken_record(seq: bool, cycles: u32, rule: u8, cycle: u32, handshakes: u32) 
 fn still_broken(m: Monitor, cycles: u32) -> Monitor
     ensures { λ r. ⌜ r ≡ stillBroken m cycles ⌝ }
 {
-    broken_record(m.seq, cycles, m.rule, m.cycle, m.handshakes)
+    broken_record(m.seq, cycles, m.rule, m.cycle, m.handshakes, m.clears)
 }
 
 // A clean record that is broken in a cycle of the burst.
-fn broken_in(m: Monitor, cycles: u32, handshakes: u32, rule: Rule, c: usize) -> Monitor
+fn broken_in(m: Monitor, cycles: u32, handshakes: u32, clears: u32, rule: Rule, c: usize) -> Monitor
     requires { ⌜ m .cycles + c ≤ maxSeen ⌝ }
-    ensures { λ r. ⌜ r ≡ brokenIn m cycles handshakes (ruleName rule) c ⌝ }
+    ensures { λ r. ⌜ r ≡ brokenIn m cycles handshakes clears (ruleName rule) c ⌝ }
 {
     broken_record(
         m.seq,
@@ -114,6 +123,7 @@ fn broken_in(m: Monitor, cycles: u32, handshakes: u32, rule: Rule, c: usize) -> 
         rule.number(),
         m.cycles + c as u32,
         handshakes,
+        clears,
     )
 }
 
@@ -128,12 +138,13 @@ pub(crate) fn after(m: Monitor, control: &[u8], data: &[u32]) -> Monitor
     }
     let seen = judge_cycles(watch_of(m), control, data, m.seq);
     let handshakes = m.handshakes + seen.handshakes as u32;
+    let clears = m.clears + seen.clears as u32;
     let found = seen.found;
     match found {
         Found::NoBreach => {
             let watch = seen.watch;
-            clean_record(m.seq, cycles, handshakes, watch)
+            clean_record(m.seq, cycles, handshakes, clears, watch)
         }
-        Found::First(rule, c) => broken_in(m, cycles, handshakes, rule, c),
+        Found::First(rule, c) => broken_in(m, cycles, handshakes, clears, rule, c),
     }
 }

@@ -2,7 +2,7 @@
 ghost use mathlib.Core.Bool.{cond};
 ghost use mathlib.Core.Path.{_≡_};
 ghost use lib.Dec.{leb, ltb};
-ghost use Rattle.monitor.specs.Record.{inRange, inPlace, cleanForm, brokenAfterStall, brokenBySeq, brokenForm, legal};
+ghost use Rattle.monitor.specs.Record.{inRange, inPlace, handshakesAndClears, cleanForm, brokenAfterStall, brokenBySeq, brokenForm, legal};
 use crate::Monitor;
 use signals::BROKEN;
 use signals::CLEAN;
@@ -28,35 +28,44 @@ fn in_place(m: Monitor) -> bool
         & ((m.counted | (m.due == 0)) & (m.seq | !m.counted))
 }
 
-// The handshakes, and one more cycle if the last stalled, are among those seen.
-fn handshakes_seen(m: Monitor) -> bool
-    ensures { λ r. ⌜ r ≡ cond (m .stalled) (ltb (m .handshakes) (m .cycles)) (leb (m .handshakes) (m .cycles)) ⌝ }
+// The handshakes and the clears together, which may be more than 32 bits hold.
+fn handshakes_and_clears(m: Monitor) -> usize
+    ensures { λ r. ⌜ r ≡ handshakesAndClears m ⌝ }
 {
+    m.handshakes as usize + m.clears as usize
+}
+
+// The handshakes, the clears, and one more cycle if the last stalled, are among those seen.
+fn counts_seen(m: Monitor) -> bool
+    ensures { λ r. ⌜ r ≡ cond (m .stalled) (ltb (handshakesAndClears m) (m .cycles)) (leb (handshakesAndClears m) (m .cycles)) ⌝ }
+{
+    let cycles = m.cycles as usize;
     if m.stalled {
-        m.handshakes < m.cycles
+        handshakes_and_clears(m) < cycles
     } else {
-        m.handshakes <= m.cycles
+        handshakes_and_clears(m) <= cycles
     }
 }
 
 fn clean_form(m: Monitor) -> bool
     ensures { λ r. ⌜ r ≡ cleanForm m ⌝ }
 {
-    ((m.rule == 0) & (m.cycle == 0)) & (handshakes_seen(m) & (!m.counted | (0 < m.handshakes)))
+    ((m.rule == 0) & (m.cycle == 0)) & (counts_seen(m) & (!m.counted | (0 < m.handshakes)))
 }
 
-// Rules 4 and 2 are broken after a stall, which is no handshake.
+// Rules 4 and 2 are broken after a stall, which is neither a handshake nor a clear.
 fn broken_after_stall(m: Monitor) -> bool
     ensures { λ r. ⌜ r ≡ brokenAfterStall m ⌝ }
 {
-    ((m.rule == 4) | (m.rule == 2)) & (m.handshakes < m.cycle)
+    ((m.rule == 4) | (m.rule == 2)) & (handshakes_and_clears(m) < m.cycle as usize)
 }
 
 // Rule seq is broken after a handshake with a counter.
 fn broken_by_seq(m: Monitor) -> bool
     ensures { λ r. ⌜ r ≡ brokenBySeq m ⌝ }
 {
-    (m.rule == SEQ) & (m.seq & ((0 < m.handshakes) & (m.handshakes <= m.cycle)))
+    (m.rule == SEQ)
+        & (m.seq & ((0 < m.handshakes) & (handshakes_and_clears(m) <= m.cycle as usize)))
 }
 
 // A cycle that was seen broke a rule, and nothing is kept for the next.

@@ -1,6 +1,6 @@
 // The stream checker fed in bursts: a small record, lent and updated, that says what the checker says of the whole trace.
 //
-// Writes out request T-05 over "Stream rules" of document 01. A burst is judged by the loop of `stream_checker`.
+// Writes out requests T-05 and T-09 over "Stream rules" of document 01. A burst is judged by the loop of `stream_checker`.
 mod burst; // burst.rt: the record after a burst
 mod form; // form.rt: the tests of refusal 6
 
@@ -30,12 +30,13 @@ pub struct Monitor {
     pub verdict: u8,
     pub rule: u8,
     pub cycle: u32,
-    // The handshakes before the broken cycle, or in all cycles while it is clean.
+    // The handshakes and the clears before the broken cycle, or in all cycles while it is clean.
     pub handshakes: u32,
+    pub clears: u32,
     // Whether the last cycle stalled, and what it showed; zeros otherwise.
     pub stalled: bool,
     pub payload: Payload,
-    // Whether a counter was carried, with seq on, and the counter that is due next; 0 otherwise.
+    // Whether a counter was carried since the last clear, with seq on, and the counter that is due next; 0 otherwise.
     pub counted: bool,
     pub due: u32,
 }
@@ -58,6 +59,7 @@ impl Monitor {
             rule: 0,
             cycle: 0,
             handshakes: 0,
+            clears: 0,
             stalled: false,
             payload: Payload { data: 0, strb: 0 },
             counted: false,

@@ -1,12 +1,13 @@
 -- `after` meets its contract: a broken record only counts the cycles (`stays`), and a clean one takes over what the loop sees.
 -- Assumes nothing.
+use Prim.Native.Nat.{_≤_}
 use mathlib.Core.Path.{sym, _∙_}
 use native.Mathlib.Omega.{arith}
 use borrow.Author.Needs.{needs}
 use lib.ListN.{length}
-use Rattle.stream_checker.proofs.Judged.{handshakes-inside, cycle-inside}
+use Rattle.stream_checker.proofs.Judged.{handshakes-inside, clears-inside, cycle-inside}
 use Rattle.monitor.proofs.Following.{stays}
-use Rattle.monitor.proofs.Legal.{handshakes-among}
+use Rattle.monitor.proofs.Legal.{Clean, counts-among}
 use Rattle.monitor.proofs.Judged.{legal-broken, legal-clean, clean-after, broken-after}
 use Rattle.monitor.proofs.burst.after.Statement.{statement}
 use Rattle.monitor.proofs.burst.after.Tie as tie
@@ -33,20 +34,39 @@ watch-of-requires c κs =
 judge-cycles-requires : tie.Need-judge-cycles-requires
 judge-cycles-requires c κs = search needs
 
+-- where the loop has seen the burst: the start of the call, and a clean record there
+abbrev start : tie.After-judge-cycles → tie.Start
+start c = c .before .before .before .before .before .before .before
+
+is-clean : (c : tie.After-judge-cycles) → Clean (start c .args .m)
+is-clean c = legal-clean (start c .args .m) (start c .pre .2) (c .before .before .if1 .left)
+
+-- it has counted no more handshakes, and no more clear cycles, than cycles
+handshakes-fit : (c : tie.After-judge-cycles) → c .judge-cycles .result .handshakes ≤ length (start c .args .control .now)
+handshakes-fit c =
+    handshakes-inside (c .judge-cycles .result) _ (start c .args .control .now) (start c .args .«data» .now) (start c .args .m .seq)
+    (start c .pre .0) (c .judge-cycles .ensures)
+
+clears-fit : (c : tie.After-judge-cycles) → c .judge-cycles .result .clears ≤ length (start c .args .control .now)
+clears-fit c =
+    clears-inside (c .judge-cycles .result) _ (start c .args .control .now) (start c .args .«data» .now) (start c .args .m .seq)
+    (start c .pre .0) (c .judge-cycles .ensures)
+
 cast-handshakes : tie.Need-cast-handshakes
-cast-handshakes c =
-    let at = c .before .before .before .before .before .before .before .before in
-    let seen = c .before .judge-cycles in
-    let inside = handshakes-inside (seen .result) _ (at .args .control .now) (at .args .«data» .now) (at .args .m .seq) (at .pre .0) (seen .ensures) in
-    omega (arith, inside, at .pre .1)
+cast-handshakes c = let seen = c .before in omega (arith, handshakes-fit seen, start seen .pre .1)
 
 add-handshakes : tie.Need-add-handshakes
 add-handshakes c =
-    let at = c .before .before .before .before .before .before .before .before .before in
-    let seen = c .before .before .judge-cycles in
-    let inside = handshakes-inside (seen .result) _ (at .args .control .now) (at .args .«data» .now) (at .args .m .seq) (at .pre .0) (seen .ensures) in
-    let among = handshakes-among (at .args .m) (legal-clean (at .args .m) (at .pre .2) (c .before .before .before .before .if1 .left)) in
-    omega (arith, inside, among, at .pre .1)
+    let seen = c .before .before in
+    omega (arith, handshakes-fit seen, counts-among (start seen .args .m) (is-clean seen), start seen .pre .1)
+
+cast-clears : tie.Need-cast-clears
+cast-clears c = let seen = c .before .before .before in omega (arith, clears-fit seen, start seen .pre .1)
+
+add-clears : tie.Need-add-clears
+add-clears c =
+    let seen = c .before .before .before .before in
+    omega (arith, clears-fit seen, counts-among (start seen .args .m) (is-clean seen), start seen .pre .1)
 
 enum-told : tie.Need-enum-told
 enum-told c = search needs
@@ -59,28 +79,28 @@ enum-known-found c = search needs
 
 broken-in-requires : tie.Need-broken-in-requires
 broken-in-requires c κs =
-    let at = c .before .before .before .before .before .before .before .before .before .before .before .before in
-    let seen = c .before .before .before .before .before .judge-cycles in
-    let inside = cycle-inside (seen .result) _ (at .args .control .now) (at .args .«data» .now) (at .args .m .seq) (at .pre .0) (seen .ensures) _ _ (c .before .found .given .1) in
+    let seen = c .before .before .before .before .before .before .before in
+    let at = start seen in
+    let inside =
+    cycle-inside (seen .judge-cycles .result) _ (at .args .control .now) (at .args .«data» .now) (at .args .m .seq) (at .pre .0)
+    (seen .judge-cycles .ensures) _ _ (c .before .found .given .1) in
     omega (arith, inside, at .pre .1)
 
 returns-2 : tie.Need-returns-2
 returns-2 c =
-    let at = c .before .before .before .before .before .before .before .before .before .before .before .before .before in
-    let seen = c .before .before .before .before .before .before .judge-cycles in
-    let is-clean = legal-clean (at .args .m) (at .pre .2) (c .before .before .before .before .before .before .before .before .if1 .left) in
+    let seen = c .before .before .before .before .before .before .before .before in
+    let at = start seen in
     c .clean-record .ensures
-    ∙ clean-after (at .args .m) is-clean (seen .result) _ (c .before .before .before .before .before .before .before .watch-of .ensures) (at .args .control .now) (at .args .«data» .now) (at .pre .0) (seen .ensures)
-    (c .before .before .enum-told .given .1)
+    ∙ clean-after (at .args .m) (is-clean seen) (seen .judge-cycles .result) _ (seen .before .watch-of .ensures) (at .args .control .now)
+    (at .args .«data» .now) (at .pre .0) (seen .judge-cycles .ensures) (c .before .before .enum-told .given .1)
 
 returns-3 : tie.Need-returns-3
 returns-3 c =
-    let at = c .before .before .before .before .before .before .before .before .before .before .before .before .before in
-    let seen = c .before .before .before .before .before .before .judge-cycles in
-    let is-clean = legal-clean (at .args .m) (at .pre .2) (c .before .before .before .before .before .before .before .before .if1 .left) in
+    let seen = c .before .before .before .before .before .before .before .before in
+    let at = start seen in
     c .broken-in .ensures
-    ∙ broken-after (at .args .m) is-clean (seen .result) _ (c .before .before .before .before .before .before .before .watch-of .ensures) (at .args .control .now) (at .args .«data» .now) (at .pre .0) (seen .ensures)
-    _ _ (c .before .before .found .given .1)
+    ∙ broken-after (at .args .m) (is-clean seen) (seen .judge-cycles .result) _ (seen .before .watch-of .ensures) (at .args .control .now)
+    (at .args .«data» .now) (at .pre .0) (seen .judge-cycles .ensures) _ _ (c .before .before .found .given .1)
 
 pub after-spec : {M : Type 1} → statement M
 after-spec =
@@ -94,6 +114,8 @@ after-spec =
     judge-cycles-requires
     cast-handshakes
     add-handshakes
+    cast-clears
+    add-clears
     enum-told
     clean-record-requires
     enum-known-found
