@@ -12,42 +12,21 @@ use lib.Dec.{eqb}
 use lib.ListN.{length, take, drop, length-map}
 use lib.Seq.{take-at}
 use borrow.Author.Tests.{eqb-true, not-false}
-use Rattle.signals.specs.declared.Payload.{Payload}
-use Rattle.signals.specs.Stream.{sample}
+use Rattle.signals.specs.Stream.{Sample}
 use Rattle.signals.specs.Tables.{Row, firstOf}
 use Rattle.signals.proofs.Bools.{either, both, clash}
 use Rattle.signals.proofs.Tables.{none-keeps}
-use Rattle.fifo.specs.Queue.{Queue, isAny, shownAs}
-use Rattle.chain.specs.Line.{outlet}
-use Rattle.chain.specs.Cycles.{Cycle, offered, after, Outlet, sampleOf, outletIn, outletTrace}
+use Rattle.fifo.specs.Queue.{Queue}
+use Rattle.chain.specs.Cycles.{outletTrace}
 use Rattle.chain.specs.Calls.{Call, step, run, well, stepGrounds, runGrounds, grounds, recorded, controlByte, dataWord, writtenOver, answer, answerBy}
-use Rattle.chain.specs.Demand3.{cyclesBy, readBack, outletOf, refusalIn, NoClear}
-use Rattle.chain.proofs.Bytes.{byte-reads}
+use Rattle.chain.specs.Demand3.{cyclesBy, readBack, outletOf, refusalIn}
+use Rattle.chain.proofs.Bytes.{sample-reads}
 use Rattle.chain.proofs.Tracing.{recorded-length, trace-length}
 
--- A run's cycles have no clear.
-recorded-no-clear : (cs ws ss : List ℕ) → NoClear (recorded cs ws ss)
-recorded-no-clear [] ws ss = tt
-recorded-no-clear (c ∷ cs) [] ss = tt
-recorded-no-clear (c ∷ cs) (w ∷ ws) [] = tt
-recorded-no-clear (c ∷ cs) (w ∷ ws) (s ∷ ss) = (refl, recorded-no-clear cs ws ss)
-
-abbrev showing : (ready : Bool) → List Payload → Outlet
-showing ready ps = record { clear = false; sample = sampleOf ready ps }
-
--- A control byte that was written, read again.
-written-reads : (ready : Bool) (ps : List Payload) →
-    sample (controlByte (showing ready ps)) (dataWord (showing ready ps)) ≡ sampleOf ready ps
-written-reads ready ps = byte-reads (isAny ps) ready (shownAs ps .strb) (shownAs ps .«data»)
-
-outlet-reads : (qs : List Queue) (c : Cycle) → c .clear ≡ false →
-    record { clear = false; sample = sample (controlByte (outletIn qs c)) (dataWord (outletIn qs c)) } ≡ outletIn qs c
-outlet-reads qs c e = rw e (ap (λ s. record { clear = false; sample = s }) (written-reads (outletIn qs c .sample .ready) (outlet qs (offered c))))
-
-trace-reads : (qs : List Queue) (cs : List Cycle) → NoClear cs →
-    readBack (map controlByte (outletTrace qs cs)) (map dataWord (outletTrace qs cs)) ≡ outletTrace qs cs
-trace-reads qs [] n = refl
-trace-reads qs (c ∷ cs) n = ap₂ (λ x y. x ∷ y) (outlet-reads qs c (n .0)) (trace-reads (after qs c) cs (n .1))
+-- What was written of a trace, read again.
+trace-reads : (trace : List Sample) → readBack (map controlByte trace) (map dataWord trace) ≡ trace
+trace-reads [] = refl
+trace-reads (s ∷ ss) = ap₂ (λ x y. x ∷ y) (sample-reads s) (trace-reads ss)
 
 written-taken : (new old : List ℕ) (n : ℕ) → length new ≡ n → take n (writtenOver new old) ≡ new
 written-taken new old n h = take-at new (drop (length new) old) n h
@@ -61,9 +40,9 @@ outlet-by qs (run controls words sinks outControls outWords) none e =
     ap₂ readBack
     (written-taken (map controlByte trace) outControls (length controls) (length-map trace controlByte ∙ long))
     (written-taken (map dataWord trace) outWords (length controls) (length-map trace dataWord ∙ long))
-    ∙ trace-reads qs (recorded controls words sinks) (recorded-no-clear controls words sinks)
+    ∙ trace-reads trace
   where
-    trace : List Outlet
+    trace : List Sample
     trace = outletTrace qs (recorded controls words sinks)
 
     -- a run that is not refused was lent sequences of one length

@@ -21,7 +21,7 @@ use Rattle.chain.specs.Calls.{Call, well, grounds, asked, backBy, answer
 use Rattle.chain.specs.Promises.{value, Done, Promised}
 use Rattle.chain.specs.Demand3.{Ledger, opened, enteredAll, Session, cyclesBy, cyclesOf, cyclesIn, outletOf, outletsIn, refusalIn, Ruled, Demand3, Claim}
 use Rattle.chain.proofs.Need.{Roomy}
-use Rattle.chain.proofs.Ledger.{Sound, sound-all, sound-opened, stretch-delivers-accepted, entered-append, entered-after}
+use Rattle.chain.proofs.Ledger.{Sound, sound-all, sound-opened, stretch-delivers-accepted, clear-drops-held, entered-append, entered-after}
 use Rattle.chain.proofs.Outlet.{trace-keeps-rules, trace-append}
 use Rattle.chain.proofs.Answers.{answer-shows-outlet, answer-refusal, grounds-not6}
 
@@ -86,10 +86,10 @@ demand3-from depths accepted start v calls s =
     record {
       answers = λ past rest d e. session-ruled (opened depths) start v past rest d (subst (Session start) e s);
       order = λ past rest e. sound past .order;
-      outlet = λ past rest before now e x y.
+      clears = λ past rest c e x. clear-drops-held (length depths) (enteredAll (opened depths) past) c (sound past) x;
+      outlet = λ past rest before now e y.
           trace-keeps-rules (map empty depths) (omega (arith, sound [] .size, legal .count)) (cyclesIn calls) past rest before now
           (sym (session-shows-outlet (opened depths) start v calls s) ∙ e)
-          x
           y;
       delay = λ past stretch rest c e x n enough.
           stretch-delivers-accepted (length depths) (enteredAll (opened depths) past) c stretch (legal .count) (sound past) x n

@@ -1,15 +1,17 @@
--- Demand 3 at work on two FIFOs of depth 2: its bound is met exactly, and a session of steps and runs, two of them refused, meets its
--- hypotheses. Everything computes but the values of FIFOs, which are `fifo`'s affair: it has some FIFO of each (`some-fifo`). Assumes nothing.
+-- Demand 3 at work on two FIFOs of depth 2: its bound is met exactly, and a session of steps and runs, two of them refused and one with a
+-- clear, meets its hypotheses. Everything computes but the values of FIFOs, which are `fifo`'s affair: it has some FIFO of each (`some-fifo`). Assumes nothing.
 use Prim.Native.Nat.{ℕ, _-_}
 use native.Mathlib.Omega.{arith}
 use mathlib.Core.Bool.{Bool, true, false, true≢false}
 use mathlib.Core.List.{List, [], _∷_, _++_, map}
+use mathlib.Core.Logic.{_↔_}
 use mathlib.Core.Path.{_≡_, refl}
 use lib.ListN.{length, replicate}
 use Rattle.signals.specs.declared.Payload.{Payload}
 use Rattle.signals.specs.declared.Outcome.the-variants.{Accepted}
 use Rattle.signals.specs.Refusals.{accepts}
 use Rattle.signals.specs.Payloads.{zeros}
+use Rattle.signals.specs.Stream.{Sample, clearCycle}
 use Rattle.signals.specs.Tables.{firstOf}
 use Rattle.fifo.specs.Queue.{Queue, empty, legalStrbs}
 use Rattle.fifo.specs.Queue as queue
@@ -18,10 +20,10 @@ use Rattle.fifo.proofs.Some.{fifoOf, some-fifo}
 use Rattle.chain.specs.declared.Chain.{Chain}
 use Rattle.chain.specs.declared.NewChain.{NewChain}
 use Rattle.chain.specs.Line.{heldIn}
-use Rattle.chain.specs.Cycles.{Cycle, Outlet, sampleOf}
-use Rattle.chain.specs.Calls.{maxFifos, Call, step, run, well, grounds, answer, back}
+use Rattle.chain.specs.Cycles.{Cycle, sampleOf}
+use Rattle.chain.specs.Calls.{maxFifos, Call, step, run, well, grounds, accepted, answer, back}
 use Rattle.chain.specs.Promises.{value, Made, Done, Promised}
-use Rattle.chain.specs.Demand3.{Ledger, opened, enteredAll, Session, outletsIn, KeepsRules, Begins, Demand3}
+use Rattle.chain.specs.Demand3.{Ledger, opened, enteredAll, Session, outletsIn, KeepsRules, Drops, Begins, Demand3}
 use Rattle.chain.proofs.Demand3.{demand3}
 
 abbrev depths : List ℕ
@@ -64,12 +66,15 @@ cleared-anew : enteredAll filled (clearing ∷ offering 5 true ∷ []) .accepted
 cleared-anew = refl
 
 -- A session: 9 is accepted in a step, and a run of four cycles delivers it in its third; a clear with a bad strobe and a run that is
--- lent too little are refused between.
+-- lent too little are refused between. A last run accepts 1, clears while 2 is offered, and then accepts 3.
 abbrev none : List Queue
 none = empty 2 ∷ empty 2 ∷ []
 
 abbrev nine : List Queue
 nine = record { depth = 2; held = word 9 ∷ [] } ∷ empty 2 ∷ []
+
+abbrev three : List Queue
+three = empty 2 ∷ record { depth = 2; held = word 3 ∷ [] } ∷ []
 
 abbrev accepting : Call
 accepting = step true (word 9) false false
@@ -83,11 +88,18 @@ draining = run (0 ∷ 0 ∷ 0 ∷ 0 ∷ []) (0 ∷ 0 ∷ 0 ∷ 0 ∷ []) (0 ∷ 
 abbrev shortRun : Call
 shortRun = run (0 ∷ []) (0 ∷ []) (1 ∷ []) [] []
 
-abbrev showing : (sink : Bool) → Payload → Outlet
-showing sink p = record { clear = false; sample = sampleOf sink (p ∷ []) }
+abbrev clearingRun : Call
+clearingRun = run (241 ∷ 245 ∷ 241 ∷ 0 ∷ []) (1 ∷ 2 ∷ 3 ∷ 0 ∷ []) (0 ∷ 1 ∷ 0 ∷ 0 ∷ []) (5 ∷ 5 ∷ 5 ∷ 5 ∷ 5 ∷ []) (6 ∷ 6 ∷ 6 ∷ 6 ∷ [])
 
-abbrev nothing : Outlet
-nothing = record { clear = false; sample = sampleOf false [] }
+-- its second entry has clear and the sink's ready, and nothing else
+run-writes-clear : accepted none clearingRun .outControls ≡ 0 ∷ 6 ∷ 0 ∷ 0 ∷ 5 ∷ []
+run-writes-clear = refl
+
+abbrev showing : (sink : Bool) → Payload → Sample
+showing sink p = sampleOf sink false (p ∷ [])
+
+abbrev nothing : Sample
+nothing = sampleOf false false []
 
 -- a chain of some FIFOs that stand for the queues
 abbrev chainOf : List Queue → Chain
@@ -106,6 +118,11 @@ unfolding value legalStrbs
 nine-value =
     rw (some-fifo (record { depth = 2; held = word 9 ∷ [] }) refl (omega arith) refl, empty-value)
 
+three-value : value (chainOf three) ≡ well three
+unfolding value legalStrbs
+three-value =
+    rw (some-fifo (record { depth = 2; held = word 3 ∷ [] }) refl (omega arith) refl, empty-value)
+
 abbrev called : List Queue → Call → List Queue → Done
 called before call after = record { call = call; answered = answer (well before) call; back = chainOf after }
 
@@ -119,6 +136,7 @@ calls =
     ∷ called nine badClear nine
     ∷ called nine draining none
     ∷ called none shortRun none
+    ∷ called none clearingRun three
     ∷ []
 
 abbrev pub new : NewChain
@@ -134,7 +152,10 @@ session = (
     promised nine nine badClear nine-value nine-value (λ e. refl),
     (
       promised nine none draining nine-value none-value (λ e. absurd (true≢false e)),
-      (promised none none shortRun none-value none-value (λ e. refl), tt),
+      (
+        promised none none shortRun none-value none-value (λ e. refl),
+        (promised none three clearingRun none-value three-value (λ e. absurd (true≢false e)), tt),
+      ),
     ),
   ),
 )
@@ -142,22 +163,39 @@ session = (
 pub holds : Demand3 depths calls
 holds = demand3 depths refl new made calls session
 
--- what was answered: five cycles, and 9 shown in two of them
-pub shows-nine : map (λ o. o .sample .payload .«data») (outletsIn calls) ≡ 0 ∷ 0 ∷ 9 ∷ 9 ∷ 0 ∷ []
+-- the cycles of the last run
+abbrev clearingTwo : Cycle
+clearingTwo = record { valid = true; payload = word 2; sink = true; clear = true }
+
+abbrev lastRun : List Cycle
+lastRun = offering 1 false ∷ clearingTwo ∷ offering 3 false ∷ idle false ∷ []
+
+-- what was answered: nine cycles, 9 shown in two of them, and one clear
+pub shows-nine : map (λ s. s .payload .«data») (outletsIn calls) ≡ 0 ∷ 0 ∷ 9 ∷ 9 ∷ 0 ∷ 0 ∷ 0 ∷ 0 ∷ 0 ∷ []
 shows-nine = refl
+
+pub shows-clear : map clearCycle (outletsIn calls) ≡ false ∷ false ∷ false ∷ false ∷ false ∷ false ∷ true ∷ false ∷ false ∷ []
+shows-clear = refl
 
 -- what `outlet` says of the two, of which the first is not taken
 pub nine-stays : KeepsRules (showing false (word 9)) (showing true (word 9))
-nine-stays = holds .outlet (nothing ∷ nothing ∷ []) (record { clear = false; sample = sampleOf true [] } ∷ []) _ _ refl refl refl
+nine-stays = holds .outlet (nothing ∷ nothing ∷ []) (sampleOf true false [] ∷ nothing ∷ sampleOf true true [] ∷ nothing ∷ nothing ∷ []) _ _ refl refl
 
 -- what `order` says in the midst of the run
 pub order-midway : let l = enteredAll (opened depths) (offering 9 false ∷ idle false ∷ []) in l .accepted ≡ l .delivered ++ heldIn (l .line)
-order-midway = holds .order (offering 9 false ∷ idle false ∷ []) (idle false ∷ idle true ∷ idle true ∷ []) refl
+order-midway = holds .order (offering 9 false ∷ idle false ∷ []) (idle false ∷ idle true ∷ idle true ∷ lastRun) refl
 
 -- what `delay` says: n = 0 and k = 2, and the sink is ready twice
 pub nine-delivered :
     Begins (word 9 ∷ []) (enteredAll (opened depths) (offering 9 false ∷ idle false ∷ idle false ∷ idle true ∷ idle true ∷ []) .delivered)
 nine-delivered =
-    holds .delay [] (idle false ∷ idle false ∷ idle true ∷ idle true ∷ []) [] (offering 9 false) refl refl
+    holds .delay [] (idle false ∷ idle false ∷ idle true ∷ idle true ∷ []) lastRun (offering 9 false) refl refl
     (refl, (refl, (refl, (refl, tt))))
     (omega arith)
+
+-- what `clears` says: 1 was held, and it alone is dropped; 2, which is offered in the clear, is not
+abbrev beforeClear : List Cycle
+beforeClear = offering 9 false ∷ idle false ∷ idle false ∷ idle true ∷ idle true ∷ offering 1 false ∷ []
+
+pub one-dropped : (dropped : List Payload) → Drops (enteredAll (opened depths) beforeClear) clearingTwo dropped ↔ (dropped ≡ word 1 ∷ [])
+one-dropped = holds .clears beforeClear (offering 3 false ∷ idle false ∷ []) clearingTwo refl refl .drops-held

@@ -1,6 +1,6 @@
 -- Order and delay over every list of cycles, from the laws of one cycle.
 -- Idea: each cycle keeps `Sound`. Over a stretch with no clear `need` falls to 0, so that as many are delivered as had been accepted;
--- by the order they are the same ones. Assumes nothing.
+-- by the order they are the same ones. At a clear the order leaves what was held, and nothing else, unaccounted for. Assumes nothing.
 use Prim.Native.Nat.{ℕ, _+_, _-_, _≤_}
 use native.Mathlib.Omega.{arith}
 use mathlib.Core.Bool.{Bool, true, false, cond, _&&_, false≢true}
@@ -11,8 +11,8 @@ use Rattle.signals.specs.declared.Payload.{Payload}
 use Rattle.signals.proofs.Bools.{both}
 use Rattle.fifo.specs.Queue.{Queue, when, empty, emptied, shown}
 use Rattle.chain.specs.Line.{mouth, cycle, heldIn}
-use Rattle.chain.specs.Cycles.{Cycle, offered, readyIn, afterAll}
-use Rattle.chain.specs.Demand3.{Ledger, opened, entered, enteredAll, readies, NoClear, Begins}
+use Rattle.chain.specs.Cycles.{Cycle, offered, readyIn, acceptedIn, deliveredIn, after, afterAll}
+use Rattle.chain.specs.Demand3.{Ledger, opened, entered, enteredAll, readies, NoClear, Begins, Drops, Clears}
 use Rattle.chain.proofs.Order.{leaving, entering, cycle-order}
 use Rattle.chain.proofs.Need.{count, need, Roomy, ticks, need-ahead, need-bound, need-none, need-falls, falls-ticks, cycle-length, cycle-count}
 
@@ -168,6 +168,44 @@ stretch-delivers-accepted k l c stretch some s h n enough =
 
     needed : need (entered l c .line) (count (entered l c .line)) ≤ readies stretch
     needed = omega (arith, need-bound (entered l c .line) (count (entered l c .line)), s₁ .size, held)
+
+-- A clear.
+append-same : (xs ys zs : List Payload) → xs ++ ys ≡ xs ++ zs → ys ≡ zs
+append-same [] ys zs e = e
+append-same (x ∷ xs) ys zs e = append-same xs ys zs (tail-eq-of-cons-eq e)
+
+pub clear-drops-held : (k : ℕ) (l : Ledger) (c : Cycle) → Sound k l → c .clear ≡ true → Clears l c
+clear-drops-held k l c s e =
+    record {
+      accepts-none = accepts-none;
+      delivers-none = delivers-none;
+      drops-held = λ dropped. (
+        λ d. append-same (l .delivered) dropped (heldIn (l .line)) (sym (settled dropped d) ∙ s .order),
+        λ is-held. rw (accepts-none, delivers-none, holds-none, is-held) (simp append-nil (s .order)),
+      );
+      settles = settled;
+    }
+  where
+    accepts-none : acceptedIn (l .line) c ≡ []
+    accepts-none = rw e (none-when (c .valid) (c .payload ∷ []))
+      where
+        none-when : (valid : Bool) (ps : List Payload) → when (valid && false) ps ≡ []
+        none-when true ps = refl
+        none-when false ps = refl
+
+    delivers-none : deliveredIn (l .line) c ≡ []
+    delivers-none = rw e (none-when (c .sink))
+      where
+        none-when : (sink : Bool) → when sink [] ≡ []
+        none-when true = refl
+        none-when false = refl
+
+    holds-none : heldIn (after (l .line) c) ≡ []
+    holds-none = rw e (emptied-holds-none (l .line))
+
+    settled : (dropped : List Payload) → Drops l c dropped → l .accepted ≡ l .delivered ++ dropped
+    settled dropped d =
+        rw (accepts-none, delivers-none, holds-none, append-nil (l .accepted), append-nil (l .delivered), append-nil (l .delivered ++ dropped)) at d
 
 -- The start, and how ledgers follow one another.
 empty-holds-none : (depths : List ℕ) → heldIn (map empty depths) ≡ []

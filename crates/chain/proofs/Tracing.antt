@@ -13,18 +13,18 @@ use Rattle.signals.specs.declared.Payload.{Payload}
 use Rattle.signals.specs.Stream.{Sample, sample}
 use Rattle.signals.proofs.Writing.{writes-one}
 use Rattle.fifo.specs.Queue.{Queue, isAny, shownAs}
-use Rattle.chain.specs.Cycles.{Cycle, shownIn, after, afterAll, Outlet, outletIn, outletTrace}
+use Rattle.chain.specs.Cycles.{Cycle, shownIn, after, afterAll, outletIn, outletTrace}
 use Rattle.chain.specs.declared.Chain.{Chain}
 use Rattle.chain.specs.Calls.{well, isWell, queues, bit, byteOf, recorded, controlByte, dataWord}
 use Rattle.chain.specs.Promises.{value}
 use Rattle.chain.specs.Cycling.{given, Sized, Traced}
 use Rattle.chain.proofs.Used.{well-queues}
-use Rattle.chain.proofs.Bytes.{bit-reads, byte-reads}
+use Rattle.chain.proofs.Bytes.{bit-reads, byte-reads, sample-reads}
 
 -- the cycle that three entries record
 abbrev pub recordedAs : (control word sink : ℕ) → Cycle
 recordedAs control word sink =
-    record { valid = sample control word .valid; payload = sample control word .payload; sink = eqb sink 1; clear = false }
+    record { valid = sample control word .valid; payload = sample control word .payload; sink = eqb sink 1; clear = sample control word .clear }
 
 pub recorded-length : (cs ws ss : List ℕ) → length ws ≡ length cs → length ss ≡ length cs → length (recorded cs ws ss) ≡ length cs
 recorded-length [] ws ss h k = refl
@@ -49,14 +49,14 @@ after-next qs (p ∷ past) c = after-next (after qs p) past c
 pub trace-next : (qs : List Queue) (past : List Cycle) (c : Cycle)
     → outletTrace qs (past ++ (c ∷ [])) ≡ outletTrace qs past ++ (outletIn (afterAll qs past) c ∷ [])
 trace-next qs [] c = refl
-trace-next qs (p ∷ past) c = ap (λ (l : List Outlet). outletIn qs p ∷ l) (trace-next (after qs p) past c)
+trace-next qs (p ∷ past) c = ap (λ (l : List Sample). outletIn qs p ∷ l) (trace-next (after qs p) past c)
 
 pub trace-length : (qs : List Queue) (past : List Cycle) → length (outletTrace qs past) ≡ length past
 trace-length qs [] = refl
 trace-length qs (p ∷ past) = ap suc (trace-length (after qs p) past)
 
 -- one entry more of an output
-write-next : (f : Outlet → ℕ) (qs : List Queue) (past : List Cycle) (c : Cycle) (i : ℕ) (out old : List ℕ) (x : ℕ)
+write-next : (f : Sample → ℕ) (qs : List Queue) (past : List Cycle) (c : Cycle) (i : ℕ) (out old : List ℕ) (x : ℕ)
     → length past ≡ i → i < length old → out ≡ map f (outletTrace qs past) ++ drop i old → x ≡ f (outletIn (afterAll qs past) c)
     → set out i x ≡ map f (outletTrace qs (past ++ (c ∷ []))) ++ drop (i + 1) old
 write-next f qs past c i out old x n h e v =
@@ -80,7 +80,7 @@ module _ (qs : List Queue) (cs ws ss oldControls oldWords : List ℕ) (chain : C
       → let this = recordedAs (getD cs i 0) (getD ws i 0) (getD ss i 0) in
       value next ≡ well (after (queues (value chain)) this)
       → valid ≡ isAny (shownIn (queues (value chain)) this) → payload ≡ shownAs (shownIn (queues (value chain)) this)
-      → byte ≡ byteOf valid (this .sink) (payload .strb)
+      → byte ≡ byteOf valid (this .sink) (this .clear) (payload .strb)
       → Tracing qs (recorded cs ws ss) oldControls oldWords next (i + 1) (set controls i byte) (set words i (payload .«data»))
   tracing-on next valid payload byte h leads shows-valid shows-payload b =
       let past = take i (recorded cs ws ss) in
@@ -101,7 +101,7 @@ module _ (qs : List Queue) (cs ws ss oldControls oldWords : List ℕ) (chain : C
       let cycles = recorded cs ws ss in
       let long = recorded-length cs ws ss (sized .sameWords) (sized .sameSinks) in
       let all : take i cycles ≡ cycles = take-all i cycles (omega arith) in
-      let made : (f : Outlet → ℕ) → length (map f (outletTrace qs cycles)) ≡ i =
+      let made : (f : Sample → ℕ) → length (map f (outletTrace qs cycles)) ≡ i =
       λ f. length-map (outletTrace qs cycles) f ∙ trace-length qs cycles ∙ long ∙ sym e
       in
       record {
@@ -113,15 +113,15 @@ module _ (qs : List Queue) (cs ws ss oldControls oldWords : List ℕ) (chain : C
 -- what a run over a trace of one cycle leaves and writes is that cycle's
 pub record TracedOne (qs : List Queue) (c : Cycle) (back : Chain) (control word : ℕ) : Type 0 where
   pub next : value back ≡ well (after qs c)
-  pub shows : sample control word ≡ outletIn qs c .sample
+  pub shows : sample control word ≡ outletIn qs c
 
-pub traced-one : (qs : List Queue) (valid : Bool) (payload : Payload) (sink : Bool) (back : Chain) (exitControls exitWords : List ℕ)
-    → Traced qs (byteOf valid false (payload .strb) ∷ []) (payload .«data» ∷ []) (bit sink ∷ []) (0 ∷ []) (0 ∷ []) back exitControls exitWords
-    → TracedOne qs (given valid payload sink false) back (getD exitControls 0 0) (getD exitWords 0 0)
-traced-one qs valid payload sink back exitControls exitWords t =
-    let this = given valid payload sink false in
-    let one : recordedAs (byteOf valid false (payload .strb)) (payload .«data») (bit sink) ≡ this =
-    ap₂ (λ (s : Sample) (b : Bool). given (s .valid) (s .payload) b false) (byte-reads valid false (payload .strb) (payload .«data»)) (bit-reads sink)
+pub traced-one : (qs : List Queue) (valid : Bool) (payload : Payload) (sink clear : Bool) (back : Chain) (exitControls exitWords : List ℕ)
+    → Traced qs (byteOf valid false clear (payload .strb) ∷ []) (payload .«data» ∷ []) (bit sink ∷ []) (0 ∷ []) (0 ∷ []) back exitControls exitWords
+    → TracedOne qs (given valid payload sink clear) back (getD exitControls 0 0) (getD exitWords 0 0)
+traced-one qs valid payload sink clear back exitControls exitWords t =
+    let this = given valid payload sink clear in
+    let one : recordedAs (byteOf valid false clear (payload .strb)) (payload .«data») (bit sink) ≡ this =
+    ap₂ (λ (s : Sample) (b : Bool). given (s .valid) (s .payload) b (s .clear)) (byte-reads valid false clear (payload .strb) (payload .«data»)) (bit-reads sink)
     in
     let o = outletIn qs this in
     let control : getD exitControls 0 0 ≡ controlByte o =
@@ -132,5 +132,5 @@ traced-one qs valid payload sink back exitControls exitWords t =
     in
     record {
       next = t .next ∙ ap (λ (c : Cycle). well (after qs c)) one;
-      shows = rw (control, word) (byte-reads (o .sample .valid) sink (o .sample .payload .strb) (o .sample .payload .«data»));
+      shows = rw (control, word) (sample-reads o);
     }

@@ -1,13 +1,13 @@
 -- The walk over the used FIFOs of a chain from the mouth to the outlet: those before a place have been served, and those
 -- from it on are as they were. One turn of a cycle and of a clear, over plain values. Assumes nothing.
 use mathlib.Core.Path.{_≡_, refl, sym, ap, _∙_}
-use mathlib.Core.Bool.{Bool, true, false}
+use mathlib.Core.Bool.{Bool, true, false, cond}
 use mathlib.Core.List.{List, [], _∷_, _++_, map, map-append, append-assoc, append-nil}
 use Prim.Native.Nat.{ℕ, _+_, _≤_, _<_}
 use native.Mathlib.Omega.{arith}
 use lib.ListN.{length, getD, set}
 use Rattle.signals.specs.declared.Payload.{Payload}
-use Rattle.signals.specs.Payloads.{legalStrb}
+use Rattle.signals.specs.Payloads.{zeros, legalStrb}
 use Rattle.signals.proofs.Bools.{clash}
 use Rattle.fifo.specs.declared.Fifo.{Fifo}
 use Rattle.fifo.specs.declared.Stepped.{Stepped}
@@ -103,7 +103,7 @@ pub record Cycling (row : List Queue) (source : List Payload) (sink : Bool) (fs 
   pub legal : legalStrb p ≡ true
   pub as-shown : 0 < i → shownAs (when offers (p ∷ [])) ≡ p
 
-pub cycling-start : (fs : List Fifo) (n : ℕ) (row : List Queue) (sink offers : Bool) (p : Payload) → lineOf (valuesFrom fs 0 n) ≡ well row
+cycling-start : (fs : List Fifo) (n : ℕ) (row : List Queue) (sink offers : Bool) (p : Payload) → lineOf (valuesFrom fs 0 n) ≡ well row
     → legalStrb p ≡ true → Cycling row (when offers (p ∷ [])) sink fs n 0 offers p
 cycling-start fs n row sink offers p e legal =
     record {
@@ -118,7 +118,7 @@ cycling-start fs n row sink offers p e legal =
 
 module _ (row : List Queue) (source : List Payload) (sink : Bool) (fs : List Fifo) (n i : ℕ) (d : Fifo) where
   -- one turn: the FIFO at i steps with `behind`, the ready of what stands behind it
-  pub cycling-on : (offers : Bool) (p : Payload) (behind : Bool) (r : Stepped) → i < n → n ≤ length fs → Cycling row source sink fs n i offers p
+  cycling-on : (offers : Bool) (p : Payload) (behind : Bool) (r : Stepped) → i < n → n ≤ length fs → Cycling row source sink fs n i offers p
       → ((others : List Queue) → valuesFrom fs (i + 1) n ≡ map queue.well others → behind ≡ mouth others sink)
       → fifo.Steps fifo.trusted (getD fs i d) offers p behind false r
       → Cycling row source sink (set fs i (r .next)) n (i + 1) (r .valid) (r .payload)
@@ -138,13 +138,13 @@ module _ (row : List Queue) (source : List Payload) (sink : Bool) (fs : List Fif
       }
 
 -- at the end the served FIFOs are the rule's row, and what the last one shows is the rule's outlet
-pub record Ended (row : List Queue) (source : List Payload) (sink : Bool) (fs : List Fifo) (n : ℕ) (offers : Bool) (p : Payload) : Type 0 where
-  pub next : lineOf (valuesFrom fs 0 n) ≡ well (cycle row source sink)
-  pub valid : offers ≡ isAny (outlet row source)
-  pub payload : p ≡ shownAs (outlet row source)
+pub record Ended (clear : Bool) (row : List Queue) (source : List Payload) (sink : Bool) (fs : List Fifo) (n : ℕ) (offers : Bool) (p : Payload) : Type 0 where
+  pub next : lineOf (valuesFrom fs 0 n) ≡ well (cond clear (map emptied row) (cycle row source sink))
+  pub valid : offers ≡ isAny (cond clear [] (outlet row source))
+  pub payload : p ≡ shownAs (cond clear [] (outlet row source))
 
-pub cycling-end : (row : List Queue) (source : List Payload) (sink : Bool) (fs : List Fifo) (n : ℕ) (offers : Bool) (p : Payload) → 0 < n
-    → Cycling row source sink fs n n offers p → Ended row source sink fs n offers p
+cycling-end : (row : List Queue) (source : List Payload) (sink : Bool) (fs : List Fifo) (n : ℕ) (offers : Bool) (p : Payload) → 0 < n
+    → Cycling row source sink fs n n offers p → Ended false row source sink fs n offers p
 cycling-end row source sink fs n offers p some w =
     let none = none-left fs n n (w .left) (omega arith) (w .split .from) in
     let shows : when offers (p ∷ []) ≡ outlet row source = rw none at (w .shows) in
@@ -158,30 +158,70 @@ cycling-end row source sink fs n offers p some w =
     any-when true = refl
     any-when false = refl
 
--- so far in a clear
-pub record Clearing (row : List Queue) (fs : List Fifo) (n i : ℕ) : Type 0 where
+-- so far in a clear: what is served is emptied, and past the first FIFO nothing is handed on
+pub record Clearing (row : List Queue) (fs : List Fifo) (n i : ℕ) (offers : Bool) (p : Payload) : Type 0 where
   pub served : List Queue
   pub left : List Queue
   pub split : Split fs n i served left
   pub next : served ++ map emptied left ≡ map emptied row
+  pub legal : legalStrb p ≡ true
+  pub silent : 0 < i → (offers ≡ false) × (p ≡ zeros)
 
-pub clearing-start : (fs : List Fifo) (n : ℕ) (row : List Queue) → lineOf (valuesFrom fs 0 n) ≡ well row → Clearing row fs n 0
-clearing-start fs n row e = record { served = []; left = row; split = split-start fs n row e; next = refl }
-
-pub clearing-on : (row : List Queue) (fs : List Fifo) (n i : ℕ) (d : Fifo) (offers : Bool) (p : Payload) (sink : Bool) (r : Stepped)
-    → i < n → n ≤ length fs → Clearing row fs n i → legalStrb p ≡ true
-    → fifo.Steps fifo.trusted (getD fs i d) offers p sink true r → Clearing row (set fs i (r .next)) n (i + 1)
-clearing-on row fs n i d offers p sink r h k w legal steps =
+clearing-on : (row : List Queue) (fs : List Fifo) (n i : ℕ) (d : Fifo) (offers : Bool) (p : Payload) (sink : Bool) (r : Stepped)
+    → i < n → n ≤ length fs → Clearing row fs n i offers p
+    → fifo.Steps fifo.trusted (getD fs i d) offers p sink true r → Clearing row (set fs i (r .next)) n (i + 1) (r .valid) (r .payload)
+clearing-on row fs n i d offers p sink r h k w steps =
     let f = front fs n i d (w .left) h k (w .split .from) in
-    let a = trusted-clears _ (f .first) offers p sink true r (f .has) legal steps refl in
+    let a = trusted-clears _ (f .first) offers p sink true r (f .has) (w .legal) steps refl in
     record {
       served = w .served ++ (emptied (f .first) ∷ []);
       left = f .others;
       split = serve fs n i (w .served) (f .others) (r .next) _ (omega arith) (w .split .below) (f .behind) (a .next);
       next = rw append-assoc (rw (f .stands) at (w .next));
+      legal = rw (a .payload);
+      silent = λ _. (a .valid, a .payload);
     }
 
-pub clearing-end : (row : List Queue) (fs : List Fifo) (n : ℕ) → Clearing row fs n n → lineOf (valuesFrom fs 0 n) ≡ well (map emptied row)
-clearing-end row fs n w =
+clearing-end : (row : List Queue) (source : List Payload) (sink : Bool) (fs : List Fifo) (n : ℕ) (offers : Bool) (p : Payload) → 0 < n
+    → Clearing row fs n n offers p → Ended true row source sink fs n offers p
+clearing-end row source sink fs n offers p some w =
     let none = none-left fs n n (w .left) (omega arith) (w .split .from) in
-    split-end fs n (w .served) (w .left) (w .split) ∙ ap well (sym (append-nil (w .served)) ∙ (rw none at (w .next)))
+    record {
+      next = split-end fs n (w .served) (w .left) (w .split) ∙ ap well (sym (append-nil (w .served)) ∙ (rw none at (w .next)));
+      valid = w .silent some .0;
+      payload = w .silent some .1;
+    }
+
+-- so far in a cycle, with clear or without
+unfoldable pub Walking : (clear : Bool) (row : List Queue) (source : List Payload) (sink : Bool) (fs : List Fifo) (n i : ℕ) (offers : Bool) (p : Payload) → Type 0
+Walking true row source sink fs n i offers p = Clearing row fs n i offers p
+Walking false row source sink fs n i offers p = Cycling row source sink fs n i offers p
+
+pub walking-start : (clear : Bool) (fs : List Fifo) (n : ℕ) (row : List Queue) (sink offers : Bool) (p : Payload) → lineOf (valuesFrom fs 0 n) ≡ well row
+    → legalStrb p ≡ true → Walking clear row (when offers (p ∷ [])) sink fs n 0 offers p
+unfolding Walking
+walking-start true fs n row sink offers p e legal =
+    record { served = []; left = row; split = split-start fs n row e; next = refl; legal = legal; silent = λ h. absurd (omega (arith, h)) }
+walking-start false fs n row sink offers p e legal = cycling-start fs n row sink offers p e legal
+
+pub walking-on : (clear : Bool) (row : List Queue) (source : List Payload) (sink : Bool) (fs : List Fifo) (n i : ℕ) (d : Fifo)
+    (offers : Bool) (p : Payload) (behind : Bool) (r : Stepped) → i < n → n ≤ length fs → Walking clear row source sink fs n i offers p
+    → ((others : List Queue) → valuesFrom fs (i + 1) n ≡ map queue.well others → behind ≡ mouth others sink)
+    → fifo.Steps fifo.trusted (getD fs i d) offers p behind clear r
+    → Walking clear row source sink (set fs i (r .next)) n (i + 1) (r .valid) (r .payload)
+unfolding Walking
+walking-on true row source sink fs n i d offers p behind r h k w is-behind steps = clearing-on row fs n i d offers p behind r h k w steps
+walking-on false row source sink fs n i d offers p behind r h k w is-behind steps = cycling-on row source sink fs n i d offers p behind r h k w is-behind steps
+
+-- what is handed on is legal
+pub walking-legal : (clear : Bool) (row : List Queue) (source : List Payload) (sink : Bool) (fs : List Fifo) (n i : ℕ) (offers : Bool) (p : Payload)
+    → Walking clear row source sink fs n i offers p → legalStrb p ≡ true
+unfolding Walking
+walking-legal true row source sink fs n i offers p w = w .legal
+walking-legal false row source sink fs n i offers p w = w .legal
+
+pub walking-end : (clear : Bool) (row : List Queue) (source : List Payload) (sink : Bool) (fs : List Fifo) (n : ℕ) (offers : Bool) (p : Payload) → 0 < n
+    → Walking clear row source sink fs n n offers p → Ended clear row source sink fs n offers p
+unfolding Walking
+walking-end true row source sink fs n offers p some w = clearing-end row source sink fs n offers p some w
+walking-end false row source sink fs n offers p some w = cycling-end row source sink fs n offers p some w

@@ -1,4 +1,4 @@
--- Document 01, "The stage and the line" and "Refusal numbers": the calls on a line, why each is refused, and what each answers.
+-- Document 01, "The stage and the line" and "Refusal numbers", with request T-09: the calls on a line, why each is refused, and what each answers.
 -- Assumes nothing.
 use Prim.Native.Nat.{ℕ, _+_, _*_}
 use mathlib.Core.Bool.{Bool, true, false, cond, not, _&&_, _||_}
@@ -9,10 +9,10 @@ use lib.Dec.{eqb, leb, ltb}
 use Rattle.signals.specs.declared.Payload.{Payload}
 use Rattle.signals.specs.Refusals.{accepts, maxCycles, anyOf}
 use Rattle.signals.specs.Payloads.{zeros, legalStrb}
-use Rattle.signals.specs.Stream.{sample, reservedBits}
+use Rattle.signals.specs.Stream.{Sample, sample, reservedBit}
 use Rattle.signals.specs.Tables.{Row, _⇐_, firstOf}
 use Rattle.fifo.specs.Queue.{Queue, empty, legalDepth}
-use Rattle.chain.specs.Cycles.{Cycle, readyIn, outletIn, outletTrace, Outlet, afterAll}
+use Rattle.chain.specs.Cycles.{Cycle, readyIn, outletIn, outletTrace, afterAll}
 
 -- one to eight FIFOs
 abbrev pub maxFifos : ℕ
@@ -59,7 +59,7 @@ runGrounds form controls words sinks outControls outWords =
     1 ⇐ not (eqb (length words) (length controls) && eqb (length sinks) (length controls))
     ∷ 3 ⇐ ltb maxCycles (length controls)
     ∷ 6 ⇐ not form
-    ∷ 2 ⇐ (anyOf reservedBits controls || anyOf (λ s. ltb 1 s) sinks)
+    ∷ 2 ⇐ (anyOf reservedBit controls || anyOf (λ s. ltb 1 s) sinks)
     ∷ 7 ⇐ (ltb (length outControls) (length controls) || ltb (length outWords) (length controls))
     ∷ []
 
@@ -67,32 +67,32 @@ abbrev pub grounds : (form : Bool) → Call → List (Row ℕ)
 grounds form (step valid payload sink clear) = stepGrounds form payload
 grounds form (run controls words sinks outControls outWords) = runGrounds form controls words sinks outControls outWords
 
--- a run's offers and sink readies, cycle by cycle; the offer's ready bits are not read, and there is no clear
+-- a run's offers with their clears, and its sink's readies, cycle by cycle; the offer's ready bits are not read
 abbrev pub recorded : (controls words sinks : List ℕ) → List Cycle
 recorded [] words sinks = []
 recorded (c ∷ cs) [] sinks = []
 recorded (c ∷ cs) (w ∷ ws) [] = []
 recorded (c ∷ cs) (w ∷ ws) (s ∷ ss) =
-    record { valid = sample c w .valid; payload = sample c w .payload; sink = eqb s 1; clear = false } ∷ recorded cs ws ss
+    record { valid = sample c w .valid; payload = sample c w .payload; sink = eqb s 1; clear = sample c w .clear } ∷ recorded cs ws ss
 
 -- the cycles of a call that is not refused: a step is one, a run as many as its trace has
 abbrev pub asked : Call → List Cycle
 asked (step valid payload sink clear) = record { valid = valid; payload = payload; sink = sink; clear = clear } ∷ []
 asked (run controls words sinks outControls outWords) = recorded controls words sinks
 
--- a control byte by its fields: bits 2 and 3 are 0
+-- a control byte by its fields: bit 3 is 0
 abbrev pub bit : Bool → ℕ
 bit b = cond b 1 0
 
-abbrev pub byteOf : (valid ready : Bool) (strb : ℕ) → ℕ
-byteOf valid ready strb = bit valid + 2 * bit ready + 16 * strb
+abbrev pub byteOf : (valid ready clear : Bool) (strb : ℕ) → ℕ
+byteOf valid ready clear strb = bit valid + 2 * bit ready + 4 * bit clear + 16 * strb
 
 -- the outlet's trace as a run writes it
-abbrev pub controlByte : Outlet → ℕ
-controlByte o = byteOf (o .sample .valid) (o .sample .ready) (o .sample .payload .strb)
+abbrev pub controlByte : Sample → ℕ
+controlByte s = byteOf (s .valid) (s .ready) (s .clear) (s .payload .strb)
 
-abbrev pub dataWord : Outlet → ℕ
-dataWord o = o .sample .payload .«data»
+abbrev pub dataWord : Sample → ℕ
+dataWord s = s .payload .«data»
 
 -- entries past those written keep what they had
 abbrev pub writtenOver : (new old : List ℕ) → List ℕ
@@ -121,11 +121,11 @@ accepted qs (step valid payload sink clear) =
     record {
       refusal = none;
       ready = readyIn qs c;
-      valid = outletIn qs c .sample .valid;
-      payload = outletIn qs c .sample .payload;
+      valid = outletIn qs c .valid;
+      payload = outletIn qs c .payload;
     }
 accepted qs (run controls words sinks outControls outWords) =
-    let trace : List Outlet = outletTrace qs (recorded controls words sinks) in
+    let trace : List Sample = outletTrace qs (recorded controls words sinks) in
     record {
       refusal = none;
       outControls = writtenOver (map controlByte trace) outControls;

@@ -41,18 +41,14 @@ abbrev pub afterAll : List Queue → List Cycle → List Queue
 afterAll qs [] = qs
 afterAll qs (c ∷ cs) = afterAll (after qs c) cs
 
--- The outlet in one cycle, as a stream's sample: valid and payload as shown, and the sink's ready. Whether it was a clear stands beside it.
-pub record Outlet : Type 0 where
-  pub clear : Bool
-  pub sample : Sample
+-- The outlet in one cycle, as a stream's sample: valid and payload as shown, the sink's ready, and clear.
+abbrev pub sampleOf : (sink clear : Bool) → List Payload → Sample
+sampleOf sink clear ps = record { valid = isAny ps; ready = sink; clear = clear; payload = shownAs ps }
 
-abbrev pub sampleOf : (sink : Bool) → List Payload → Sample
-sampleOf sink ps = record { valid = isAny ps; ready = sink; payload = shownAs ps }
-
-abbrev pub outletIn : List Queue → Cycle → Outlet
-outletIn qs c = record { clear = c .clear; sample = sampleOf (c .sink) (shownIn qs c) }
+abbrev pub outletIn : List Queue → Cycle → Sample
+outletIn qs c = sampleOf (c .sink) (c .clear) (shownIn qs c)
 
 -- the outlet's trace
-abbrev pub outletTrace : List Queue → List Cycle → List Outlet
+abbrev pub outletTrace : List Queue → List Cycle → List Sample
 outletTrace qs [] = []
 outletTrace qs (c ∷ cs) = outletIn qs c ∷ outletTrace (after qs c) cs

@@ -1,21 +1,23 @@
--- Demand 3 of document 01: a line of FIFOs loses, invents, reorders and overdelays nothing. One claim about a whole list of steps and
--- runs on one chain; it is proved in `proofs/Demand3.antt`. Assumes nothing.
+-- Demand 3 of document 01, with request T-09: between clears a line of FIFOs loses, invents, reorders and overdelays nothing, and a clear
+-- drops exactly what is held. One claim about a whole list of steps and runs on one chain; it is proved in `proofs/Demand3.antt`.
+-- Assumes nothing.
 use Prim.Native.Nat.{ℕ, _+_, _≤_}
 use mathlib.Core.Bool.{true, false, cond, _&&_}
 use mathlib.Core.List.{List, [], _∷_, _++_, map}
+use mathlib.Core.Logic.{_↔_}
 use mathlib.Core.Option.{Option, none, some}
 use mathlib.Core.Path.{_≡_}
 use lib.ListN.{length, take}
 use Rattle.signals.specs.declared.Payload.{Payload}
 use Rattle.signals.specs.Refusals.{accepts}
-use Rattle.signals.specs.Stream.{sample}
+use Rattle.signals.specs.Stream.{Sample, sample, clearCycle}
 use Rattle.signals.specs.Tables.{firstOf}
 use Rattle.stream_checker.specs.Rules.{breaksHeld, breaksStable}
 use Rattle.fifo.specs.Queue.{Queue, empty}
 use Rattle.chain.specs.declared.Chain.{Chain}
 use Rattle.chain.specs.declared.NewChain.{NewChain}
 use Rattle.chain.specs.Line.{heldIn}
-use Rattle.chain.specs.Cycles.{Cycle, readyIn, acceptedIn, deliveredIn, after, Outlet}
+use Rattle.chain.specs.Cycles.{Cycle, readyIn, acceptedIn, deliveredIn, after}
 use Rattle.chain.specs.Calls.{Call, step, run, Answer, well, grounds, asked, answer, newGrounds}
 use Rattle.chain.specs.Promises.{value, Made, Done, Promised}
 
@@ -59,30 +61,43 @@ abbrev pub cyclesIn : List Done → List Cycle
 cyclesIn [] = []
 cyclesIn (d ∷ ds) = cyclesOf d ++ cyclesIn ds
 
--- the outlet as a call answered it: a step by what it shows, a run by what it wrote
-abbrev pub readBack : (controls words : List ℕ) → List Outlet
+-- the outlet as a call answered it: a step by what it shows, a run by what it wrote, its clears in bit 2
+abbrev pub readBack : (controls words : List ℕ) → List Sample
 readBack [] ws = []
 readBack (c ∷ cs) [] = []
-readBack (c ∷ cs) (w ∷ ws) = record { clear = false; sample = sample c w } ∷ readBack cs ws
+readBack (c ∷ cs) (w ∷ ws) = sample c w ∷ readBack cs ws
 
-abbrev pub outletOf : (call : Call) → Answer call → List Outlet
+abbrev pub outletOf : (call : Call) → Answer call → List Sample
 outletOf (step valid payload sink clear) a =
     cond (accepts (a .refusal))
-    (record { clear = clear; sample = record { valid = a .valid; ready = sink; payload = a .payload } } ∷ [])
+    (record { valid = a .valid; ready = sink; clear = clear; payload = a .payload } ∷ [])
     []
 outletOf (run controls words sinks outControls outWords) a =
     cond (accepts (a .refusal))
     (readBack (take (length controls) (a .outControls)) (take (length controls) (a .outWords)))
     []
 
-abbrev pub outletsIn : List Done → List Outlet
+abbrev pub outletsIn : List Done → List Sample
 outletsIn [] = []
 outletsIn (d ∷ ds) = outletOf (d .call) (d .answered) ++ outletsIn ds
 
--- rules 4 and 2 of the stream checker, between a cycle and the next; a clear is not judged and lays no duty
-pub record KeepsRules (before now : Outlet) : Type 0 where
-  pub rule4 : breaksHeld (before .sample) (now .sample) ≡ false
-  pub rule2 : breaksStable (before .sample) (now .sample) ≡ false
+-- rules 4 and 2 of the stream checker, between a cycle and the next
+pub record KeepsRules (before now : Sample) : Type 0 where
+  pub rule4 : breaksHeld before now ≡ false
+  pub rule2 : breaksStable before now ≡ false
+
+-- what a cycle drops: all that was accepted by its end is delivered, then dropped, then held
+abbrev pub Drops : Ledger → Cycle → (dropped : List Payload) → Type 0
+Drops l c dropped =
+    l .accepted ++ acceptedIn (l .line) c ≡ l .delivered ++ deliveredIn (l .line) c ++ dropped ++ heldIn (after (l .line) c)
+
+-- A clear cycle: its offer is not accepted and nothing is delivered; the payloads dropped are exactly those held when it began; and accepted
+-- since the last clear is delivered followed by dropped.
+pub record Clears (l : Ledger) (c : Cycle) : Type 0 where
+  pub accepts-none : acceptedIn (l .line) c ≡ []
+  pub delivers-none : deliveredIn (l .line) c ≡ []
+  pub drops-held : (dropped : List Payload) → Drops l c dropped ↔ (dropped ≡ heldIn (l .line))
+  pub settles : (dropped : List Payload) → Drops l c dropped → l .accepted ≡ l .delivered ++ dropped
 
 -- in how many of the cycles the sink is ready
 abbrev pub readies : List Cycle → ℕ
@@ -116,9 +131,12 @@ pub record Demand3 (depths : List ℕ) (calls : List Done) : Type 0 where
   pub order : (past rest : List Cycle) → cyclesIn calls ≡ past ++ rest →
       let l = enteredAll (opened depths) past in
       l .accepted ≡ l .delivered ++ heldIn (l .line)
-  -- between neighbouring cycles, from one call to the next too
-  pub outlet : (past rest : List Outlet) (before now : Outlet) → outletsIn calls ≡ past ++ before ∷ now ∷ rest →
-      before .clear ≡ false → now .clear ≡ false → KeepsRules before now
+  -- at every clear
+  pub clears : (past rest : List Cycle) (c : Cycle) → cyclesIn calls ≡ past ++ c ∷ rest → c .clear ≡ true →
+      Clears (enteredAll (opened depths) past) c
+  -- between neighbouring cycles, from one call to the next too; a clear cycle is not judged, and by the rules lays no duty
+  pub outlet : (past rest : List Sample) (before now : Sample) → outletsIn calls ≡ past ++ before ∷ now ∷ rest →
+      clearCycle now ≡ false → KeepsRules before now
   -- accepted in cycle c with n held: delivered by the (n + k)th later cycle in which the sink is ready
   pub delay : (past stretch rest : List Cycle) (c : Cycle) → cyclesIn calls ≡ past ++ c ∷ stretch ++ rest →
       let l = enteredAll (opened depths) past in

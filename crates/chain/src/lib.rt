@@ -1,6 +1,6 @@
 // One to eight FIFOs in a row, a cycle or a trace at a time.
 //
-// Writes out the line of "The stage and the line" of document 01. The crate sees of a FIFO its value and its promise
+// Writes out the line of "The stage and the line" of document 01, with request T-09. The crate sees of a FIFO its value and its promise
 // (`Queue` and `Promises` of `fifo`), and nothing of how it is kept. Demand 3 stands in `specs/Demand3.antt`.
 mod cycle;
 mod empty;
@@ -78,8 +78,8 @@ impl Chain {
         self.silent(Refusal::BadState)
     }
 
-    // A cycle for each entry of the recorded offer and of the sink's readies, with no clear. The outlet's trace goes into the
-    // two outputs, whose entries past its length stay.
+    // A cycle for each entry of the recorded offer, which may be a clear, and of the sink's readies. The outlet's trace goes into
+    // the two outputs, whose entries past its length stay.
     pub fn run(
         self,
         control: &[u8],

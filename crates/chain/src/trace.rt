@@ -38,12 +38,12 @@ pub(crate) fn bit(b: bool) -> u8
     if b { 1 } else { 0 }
 }
 
-// The control byte that records valid, ready and strb; its reserved bits are 0.
-pub(crate) fn control_byte(valid: bool, ready: bool, strb: u8) -> u8
+// The control byte that records valid, ready, clear and strb; its reserved bit is 0.
+pub(crate) fn control_byte(valid: bool, ready: bool, clear: bool, strb: u8) -> u8
     requires { ⌜ strb ≤ maxStrb ⌝ }
-    ensures { λ r. ⌜ r ≡ byteOf valid ready strb ⌝ }
+    ensures { λ r. ⌜ r ≡ byteOf valid ready clear strb ⌝ }
 {
-    bit(valid) + 2 * bit(ready) + 16 * strb
+    bit(valid) + 2 * bit(ready) + 4 * bit(clear) + 16 * strb
 }
 
 impl Chain {
@@ -79,7 +79,8 @@ impl Chain {
     }
 
     // The cycles of a run that is not refused. In each the walk goes from the mouth to the outlet: a FIFO is offered what the one
-    // before it showed, and its sink is the one behind it as it was, since the walk has not come to it yet. What the last shows is written.
+    // before it showed, and its sink is the one behind it as it was, since the walk has not come to it yet. A clear goes to each. What the
+    // last shows is written.
     pub(crate) fn traced(
         self,
         control: &[u8],
@@ -98,6 +99,7 @@ impl Chain {
         let mut i = 0;
         while i < control.len() {
             let c = control[i];
+            let clear = stream::clear(c);
             let ready = sink[i] == 1;
             let mut offers = stream::valid(c);
             let mut offer = Payload {
@@ -112,14 +114,14 @@ impl Chain {
                     let behind = chain.fifos[j + 1];
                     behind_ready = behind.is_ready();
                 }
-                let r = f.step_trusted(offers, offer, behind_ready, false);
+                let r = f.step_trusted(offers, offer, behind_ready, clear);
                 let n = r.next;
                 chain.fifos[j] = n;
                 offers = r.valid;
                 offer = r.payload;
                 j += 1;
             }
-            out_control[i] = control_byte(offers, ready, offer.strb);
+            out_control[i] = control_byte(offers, ready, clear, offer.strb);
             out_data[i] = offer.data;
             i += 1;
         }

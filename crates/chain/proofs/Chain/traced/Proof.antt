@@ -1,6 +1,7 @@
 -- `Chain::traced` meets its contract. After `i` cycles the chain is where they lead, and the outputs hold what they wrote, then what stood
--- there (`Tracing`); within a cycle the FIFOs before `j` are as the rule leaves them (`Cycling`). Assumes nothing.
+-- there (`Tracing`); within a cycle the FIFOs before `j` are as the rule leaves them (`Walking`). Assumes nothing.
 use mathlib.Core.Path.{_≡_, refl, sym, ap, _∙_}
+use mathlib.Core.Bool.{Bool}
 use mathlib.Core.List.{List, [], _∷_, map}
 use mathlib.Core.Logic.{⊎-elim}
 use Prim.Native.Nat.{_+_, _-_, _≤_, _<_}
@@ -15,21 +16,21 @@ use Rattle.fifo.specs.Queue.{Queue, readyOf, when}
 use Rattle.fifo.specs.Promises.{trusted}
 use Rattle.chain.specs.Line.{mouth}
 use Rattle.chain.specs.Cycles.{offered}
-use Rattle.chain.specs.Calls.{isWell, queues, maxFifos, recorded}
+use Rattle.chain.specs.Calls.{isWell, queues, maxFifos, byteOf, recorded}
 use Rattle.chain.specs.Promises.{value}
 use Rattle.chain.proofs.Used.{valuesFrom, formed, row-value}
-use Rattle.chain.proofs.Walk.{Cycling, cycling-start, cycling-on, Ended, cycling-end, mouth-ready, mouth-sink}
+use Rattle.chain.proofs.Walk.{Walking, walking-start, walking-on, walking-legal, Ended, walking-end, mouth-ready, mouth-sink}
 use Rattle.chain.proofs.Tracing.{Tracing, recordedAs, tracing-start, tracing-on, tracing-end}
 use Rattle.chain.proofs.Chain.traced.Statement.{statement}
 use Rattle.chain.proofs.Chain.traced.Tie as tie
 
 abbrev Inv-loop2 : tie.InvT-loop2
-Inv-loop2 control «data» sink out-control out-data chain₀ last i c ready offers₀ offer₀ j₀ chain offers offer j =
-    Cycling (queues (value chain₀)) (when offers₀ (offer₀ ∷ [])) ready (chain .fifos) (chain₀ .count) j offers offer
+Inv-loop2 control «data» sink out-control out-data chain₀ last i c clear ready offers₀ offer₀ j₀ chain offers offer j =
+    Walking clear (queues (value chain₀)) (when offers₀ (offer₀ ∷ [])) ready (chain .fifos) (chain₀ .count) j offers offer
     × ((chain .count ≡ chain₀ .count) × ((length (chain .fifos) ≡ maxFifos) × ((j ≤ last + 1) × ((last + 1 ≡ chain₀ .count) × (last < maxFifos)))))
 
 abbrev μ-loop2 : tie.MeasureT-loop2
-μ-loop2 control «data» sink out-control out-data chain₀ last i c ready offers₀ offer₀ j₀ chain offers offer j = last + 1 - j
+μ-loop2 control «data» sink out-control out-data chain₀ last i c clear ready offers₀ offer₀ j₀ chain offers offer j = last + 1 - j
 
 abbrev Inv-loop : tie.InvT-loop
 Inv-loop control «data» sink out-control₀ out-data₀ chain₀ last i₀ out-control out-data chain i =
@@ -58,24 +59,27 @@ loop-holds c =
 shared-slice-read-c : tie.Need-shared-slice-read-c Inv-loop2 μ-loop2 Inv-loop μ-loop
 shared-slice-read-c c = search needs
 
+clear-requires : tie.Need-clear-requires Inv-loop2 μ-loop2 Inv-loop μ-loop
+clear-requires c κs = search needs
+
 shared-slice-read-ready : tie.Need-shared-slice-read-ready Inv-loop2 μ-loop2 Inv-loop μ-loop
 shared-slice-read-ready c = search needs
 
 valid-requires : tie.Need-valid-requires Inv-loop2 μ-loop2 Inv-loop μ-loop
 valid-requires c κs = search needs
 
-mul-t22 : tie.Need-mul-t22 Inv-loop2 μ-loop2 Inv-loop μ-loop
-mul-t22 c = search needs
+mul-t23 : tie.Need-mul-t23 Inv-loop2 μ-loop2 Inv-loop μ-loop
+mul-t23 c = search needs
 
-shared-slice-read-t28 : tie.Need-shared-slice-read-t28 Inv-loop2 μ-loop2 Inv-loop μ-loop
-shared-slice-read-t28 c = search needs
+shared-slice-read-t29 : tie.Need-shared-slice-read-t29 Inv-loop2 μ-loop2 Inv-loop μ-loop
+shared-slice-read-t29 c = search needs
 
 strb-requires : tie.Need-strb-requires Inv-loop2 μ-loop2 Inv-loop μ-loop
 strb-requires c κs = search needs
 
 -- the turn of the outer loop in which a cycle's walk begins, and the function's entry
 abbrev turn : tie.After-strb Inv-loop2 μ-loop2 Inv-loop μ-loop → tie.In-loop Inv-loop2 μ-loop2 Inv-loop μ-loop
-turn c = c .before .before .before .before .before
+turn c = c .before .before .before .before .before .before
 
 abbrev entry : tie.In-loop Inv-loop2 μ-loop2 Inv-loop μ-loop → tie.Start Inv-loop2 μ-loop2 Inv-loop μ-loop
 entry c = c .before .before .before .before .before .before .before .before
@@ -83,10 +87,13 @@ entry c = c .before .before .before .before .before .before .before .before
 loop2-holds : tie.Need-loop2-holds Inv-loop2 μ-loop2 Inv-loop μ-loop
 loop2-holds c =
     let l = turn c .before .loop in
+    let a = entry (turn c) .args in
     let f = formed (l .chain) (ap isWell (l .inv .0 .at)) in
     let v = l .inv .1 .1 .1 .1 in (
-      cycling-start (l .chain .fifos) (l .chain .count) _ _ _ _ (f .row)
-          (le-leb (c .strb .result) maxStrb (omega (arith, c .strb .ensures, c .before .before .before .before .shared-slice-known4 .given (l .i)))),
+      walking-start _ (l .chain .fifos) (l .chain .count) _ (eqb (getD (a .sink .now) (l .i) 0) 1) (c .before .before .valid .result)
+          (record { «data» = getD (a .«data» .now) (l .i) 0; strb = c .strb .result })
+          (f .row)
+          (le-leb (c .strb .result) maxStrb (omega (arith, c .strb .ensures, c .before .before .before .before .before .shared-slice-known4 .given (l .i)))),
       (refl, (v .0, (omega arith, v .1))),
     )
 
@@ -149,7 +156,7 @@ loop2-again c =
     let n = turn (joined .before .before .before .before) .before .loop .chain .count in
     let v = w .inv .1 in
     let inside : w .j < n = omega (arith, joined .before .before .loop2-test .taken, v .1 .1 .1 .0) in (
-      cycling-on _ _ _ fs n (w .j) _ (w .offers) (w .offer) _ (r .result) inside (omega (arith, v .1 .0, v .1 .1 .1)) (w .inv .0) (behind-it joined) (r .ensures),
+      walking-on _ _ _ _ fs n (w .j) _ (w .offers) (w .offer) _ (r .result) inside (omega (arith, v .1 .0, v .1 .1 .1)) (w .inv .0) (behind-it joined) (r .ensures),
       (v .0, (length-set fs (w .j) (r .result .next) ∙ v .1 .0, (omega (arith, inside, v .1 .1 .1 .0), v .1 .1 .1))),
     )
 
@@ -160,15 +167,15 @@ ended : (c : tie.After-loop2 Inv-loop2 μ-loop2 Inv-loop μ-loop) →
     let l = t .before .loop in
     let a = entry t .args in
     let this = recordedAs (getD (a .control .now) (l .i) 0) (getD (a .«data» .now) (l .i) 0) (getD (a .sink .now) (l .i) 0) in
-    Ended (queues (value (l .chain))) (offered this) (this .sink) (w .chain .fifos) (l .chain .count) (w .offers) (w .offer)
+    Ended (this .clear) (queues (value (l .chain))) (offered this) (this .sink) (w .chain .fifos) (l .chain .count) (w .offers) (w .offer)
 ended c =
     let w = c .before .loop2 in
     let s = c .before .before in
     let l = turn s .before .loop in
     let v = w .inv .1 .1 .1 in
     let at : w .j ≡ l .chain .count = omega (arith, c .loop2-test .left, v .0, v .1 .0) in
-    rw (← s .before .before .valid .ensures, ← s .strb .ensures)
-    (cycling-end _ _ _ (w .chain .fifos) (l .chain .count) (w .offers) (w .offer) (omega (arith, v .1 .0)) (rw at at (w .inv .0)))
+    rw (← s .before .before .before .before .clear .ensures, ← s .before .before .valid .ensures, ← s .strb .ensures)
+    (walking-end _ _ _ _ (w .chain .fifos) (l .chain .count) (w .offers) (w .offer) (omega (arith, v .1 .0)) (rw at at (w .inv .0)))
 
 -- the cycle's place in the trace and in the outputs
 inside : (c : tie.After-loop2 Inv-loop2 μ-loop2 Inv-loop μ-loop) →
@@ -183,7 +190,7 @@ inside c =
     (h, (omega (arith, h, l .inv .1 .1 .0, sized .roomControls), omega (arith, h, l .inv .1 .1 .1 .0, sized .roomWords)))
 
 control-byte-requires : tie.Need-control-byte-requires Inv-loop2 μ-loop2 Inv-loop μ-loop
-control-byte-requires c κs = leb-true _ maxStrb (c .before .loop2 .inv .0 .legal)
+control-byte-requires c κs = leb-true _ maxStrb (walking-legal _ _ _ _ _ _ _ _ _ (c .before .loop2 .inv .0))
 
 slice-write-out-control : tie.Need-slice-write-out-control Inv-loop2 μ-loop2 Inv-loop μ-loop
 slice-write-out-control c = inside (c .before) .1 .0
@@ -209,13 +216,14 @@ loop-again c =
     let e = ended (c .before) in
     let same = w .inv .1 .0 in
     let v = w .inv .1 .1 in
-    let byte = c .control-byte in (
+    let byte = c .control-byte in
+    let ready = eqb (getD (entry t .args .sink .now) (l .i) 0) 1 in (
       tracing-on _ _ _ _ _ _ (l .chain) (l .i) (l .out-control) (l .out-data) (entry t .pre .1) (l .inv .0) (w .chain) (w .offers) (w .offer) (byte .result)
           (inside (c .before) .0)
           (row-value _ _ (rw same (f .some)) (rw same (f .most)) (rw same (e .next)))
           (e .valid)
           (e .payload)
-          (byte .ensures),
+          (byte .ensures ∙ ap (λ (b : Bool). byteOf (w .offers) ready b (w .offer .strb)) (c .before .before .before .before .before .before .before .clear .ensures)),
       (
         omega (arith, inside (c .before) .0),
         (
@@ -249,10 +257,11 @@ traced-spec =
     sub-last
     loop-holds
     shared-slice-read-c
+    clear-requires
     shared-slice-read-ready
     valid-requires
-    mul-t22
-    shared-slice-read-t28
+    mul-t23
+    shared-slice-read-t29
     strb-requires
     loop2-holds
     mul-f
