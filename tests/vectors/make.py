@@ -1,9 +1,9 @@
 #!/usr/bin/env python3
 """Makes the vectors of crates/vectors whose names begin with `edge_`: bench texts, each with its report.
 
-The reports come from a plain model of document 01 ("Stream rules", with request T-04, and "Bench text"), which shares nothing
-with the proved code or its definitions. The model is first held against every other vector in the folder, which were made
-elsewhere. Writes data/edge_*.in, data/edge_*.out, args and stdout in crates/vectors. Takes no arguments.
+The reports come from a plain model of document 01 ("Stream rules" and "Bench text", with requests T-04 and T-09), which shares
+nothing with the proved code or its definitions. The model is first held against every other vector in the folder, which were
+made elsewhere. Writes data/edge_*.in, data/edge_*.out, args and stdout in crates/vectors. Takes no arguments.
 """
 
 import pathlib
@@ -16,8 +16,8 @@ DATA = CRATE / "data"
 
 # The model.
 
-REFUSED = "kind=none\ncycles=0\nverdict=refused\nrule={}\nat=0\nhandshakes=0\n"
-REPORT = "kind=stream\ncycles={}\nverdict={}\nrule={}\nat={}\nhandshakes={}\n"
+REFUSED = "kind=none\ncycles=0\nverdict=refused\nrule={}\nat=0\nhandshakes=0\nclears=0\n"
+REPORT = "kind=stream\ncycles={}\nverdict={}\nrule={}\nat={}\nhandshakes={}\nclears={}\n"
 HEADER = re.compile(rb"kind=stream\nseq=(on|off)\ncycles=(0|[1-9][0-9]{0,4})\n")
 LINE = re.compile(rb"c=([0-9a-f]{2})([0-9a-f]{8})\n")
 
@@ -28,10 +28,13 @@ def carries(control):
 
 
 def breach(trace, counter, seq, c):
-    """The first rule, in the order 4, 2, seq, that cycle c breaks; counter is the last one seen, or None."""
+    """The first rule, in the order 4, 2, seq, that cycle c breaks, which is not clear.
+
+    counter is the last one seen since a clear, or None.
+    """
     control, data = trace[c]
     valid = control & 1
-    if c > 0 and trace[c - 1][0] & 3 == 1:
+    if c > 0 and trace[c - 1][0] & 7 == 1:
         before, word = trace[c - 1]
         if not valid:
             return "4"
@@ -43,16 +46,19 @@ def breach(trace, counter, seq, c):
 
 
 def judged(trace, seq):
-    handshakes, counter = 0, None
+    handshakes, clears, counter = 0, 0, None
     for c, (control, data) in enumerate(trace):
+        if control & 4:
+            clears, counter = clears + 1, None
+            continue
         rule = breach(trace, counter, seq, c)
         if rule is not None:
-            return REPORT.format(len(trace), "broken", rule, c, handshakes)
+            return REPORT.format(len(trace), "broken", rule, c, handshakes, clears)
         if control & 3 == 3:
             handshakes += 1
         if carries(control):
             counter = data & 0xFFFF
-    return REPORT.format(len(trace), "clean", 0, 0, handshakes)
+    return REPORT.format(len(trace), "clean", 0, 0, handshakes, clears)
 
 
 def report(text):
@@ -72,7 +78,7 @@ def report(text):
         at = line.end()
     if at != len(text):
         return REFUSED.format(9).encode()
-    if any(control & 0x0C for control, _ in trace):
+    if any(control & 8 for control, _ in trace):
         return REFUSED.format(2).encode()
     return judged(trace, header[1] == b"on").encode()
 
@@ -97,10 +103,17 @@ def skipped(*words):
     return [(strobes[i % 12] << 4 | 3, word) for i, word in enumerate(words)]
 
 
-def random_clean(cycles, rng):
-    """A clean trace with stalls, whose counters follow one another; three payloads in four carry none."""
+def random_clean(cycles, rng, clears=0):
+    """A clean trace with stalls, whose counters follow one another; three payloads in four carry none.
+
+    One cycle in so many is clear, if any; its other bits are anything, and the counters go on anywhere after it.
+    """
     trace, counter, stalled = [], 0xFF00, None
     while len(trace) < cycles:
+        if clears and rng.randrange(clears) == 0:
+            trace.append((rng.getrandbits(8) & 0xF7 | 4, rng.getrandbits(32)))
+            counter, stalled = rng.getrandbits(16), None
+            continue
         ready = rng.randrange(2)
         if stalled is None and rng.randrange(3) == 0:
             trace.append((rng.randrange(16) << 4 | ready << 1, rng.getrandbits(32)))
@@ -214,11 +227,26 @@ def verdicts():
     yield "seq_under_strb_3_7_11", text([(0x33, 5), (0x73, 6), (0xB3, 7), (0x33, 9)], seq="on")
     yield "seq_last_word_counts", text(handshakes(5) + [(0x73, 5)], seq="on")
     yield "rule_4_null_bytes", text([(0xF3, 5), (0xC1, 9), (0xC2, 9)], seq="on")
-    yield "every_control_without_stall", text([(control, 7) for control in range(256) if control & 12 == 0 and control & 3 != 1])
-    yield "reserved_bit_2", text([(0x04, 0)])
+    yield "every_control_without_stall", text([(control, 7) for control in range(256) if control & 8 == 0 and control & 7 != 1])
     yield "reserved_both_bits", text([(0xFF, 0)])
     yield "reserved_past_breach", text([(0xF1, 1), (0xF0, 1), (0x02, 0), (0x08, 0)])
-    yield "reserved_before_too_few_lines", text([(0x04, 0)], cycles=2)
+    yield "reserved_before_too_few_lines", text([(0x08, 0)], cycles=2)
+
+
+def clears():
+    """Short traces with clear cycles."""
+    clear = (0x04, 0)
+    yield "clear_between_stall_and_valid_0", text([(0xF1, 5), (0xF5, 5), (0xF2, 5)])
+    yield "clear_between_stall_and_payload", text([(0xF1, 5), (0xF7, 5), (0x73, 6)])
+    yield "clear_before_a_stall", text([clear, (0xF1, 5), clear, (0xF1, 6), (0xF0, 6)])
+    yield "clear_shows_a_stall", text([(0xF5, 5), (0xF3, 6)])
+    yield "clear_shows_a_handshake", text(handshakes(5) + [(0xF7, 6)] + handshakes(7, 8), seq="on")
+    yield "clear_shows_a_counter", text([(0xF7, 5)] + handshakes(9) + [(0xF7, 10)] + handshakes(10), seq="on")
+    yield "clear_between_counters", text(handshakes(5) + skipped(1) + [clear] + skipped(2) + handshakes(5, 6), seq="on")
+    yield "clear_before_counter_due", text(handshakes(5) + [clear] + handshakes(9, 6), seq="on")
+    yield "clear_bit_3_past_breach", text([(0xF1, 1), (0xF0, 1), (0x0C, 0)])
+    yield "clears_around_breach", text([clear] + handshakes(5) + [clear] + handshakes(9, 11) + [clear] * 3, seq="on")
+    yield "clears_of_every_byte", text([(control, 7) for control in range(256) if control & 12 == 4], seq="on")
 
 
 def longest():
@@ -233,7 +261,9 @@ def longest():
     yield "full_rule_2_last", text(always[:4094] + [(0xF1, 5), (0xF3, 6)])
     yield "full_rule_4_last", text(always[:4094] + [(0x11, 5), (0x12, 5)])
     yield "full_seq_last", text(always[:4095] + always[:1], seq="on")
-    yield "full_reserved_last", text(always[:4095] + [(0x04, 0)])
+    yield "full_longest_report", text([(0xF7, 9)] * 1000 + always[:3095] + always[:1], seq="on")
+    yield "full_random_with_clears", text(random_clean(4096, rng, clears=16), seq="on")
+    yield "full_reserved_last", text(always[:4095] + [(0x08, 0)])
     yield "full_no_last_line_feed", text(always)[:-1]
     yield "full_surplus_byte", text(always) + b"c"
     yield "full_surplus_4097_lines", text(always + [(0x02, 0)], cycles=4096)
@@ -247,7 +277,7 @@ def main():
             raise SystemExit("the model disagrees with " + given.name)
     for old in DATA.glob("edge_*"):
         old.unlink()
-    for group in [headers, lines, verdicts, longest]:
+    for group in [headers, lines, verdicts, clears, longest]:
         for name, made in group():
             (DATA / "edge_{}.in".format(name)).write_bytes(made)
             (DATA / "edge_{}.out".format(name)).write_bytes(report(made))

@@ -12,7 +12,8 @@ pub const ALIGN: u8 = 101;
 pub const MAX_DEPTH: usize = 16;
 pub const MAX_FIFOS: usize = 8;
 
-/// The verdict on a stream's trace; rule and cycle are 0 unless it is broken.
+/// The verdict on a stream's trace; rule and cycle are 0 unless it is broken. Handshakes and clear cycles are those before the
+/// broken one, or all.
 #[repr(C)]
 #[derive(Clone, Copy, PartialEq, Eq, Debug)]
 pub struct StreamAnswer {
@@ -21,6 +22,7 @@ pub struct StreamAnswer {
     pub rule: u8,
     pub cycle: u32,
     pub handshakes: u32,
+    pub clears: u32,
 }
 
 /// The verdict on a memory trace, and whether a read is open at its end.
@@ -42,8 +44,9 @@ pub struct Payload {
     pub strb: u8,
 }
 
-/// The record of a stream that is checked in bursts: whether seq is on, the cycles seen, the verdict with its rule and cycle and
-/// the handshakes, and what the next cycle is judged by: what stalled in the last one, and the counter that is due.
+/// The record of a stream that is checked in bursts: whether seq is on, the cycles seen, the verdict with its rule and cycle, the
+/// handshakes and the clear cycles, and what the next cycle is judged by: what stalled in the last one, and the counter that is
+/// due.
 #[repr(C)]
 #[derive(Clone, Copy, PartialEq, Eq, Hash, Debug)]
 pub struct Monitor {
@@ -53,6 +56,7 @@ pub struct Monitor {
     pub rule: u8,
     pub cycle: u32,
     pub handshakes: u32,
+    pub clears: u32,
     pub stalled: bool,
     pub payload: Payload,
     pub counted: bool,
@@ -153,6 +157,7 @@ pub struct Filled {
 pub struct StreamFields {
     pub valid: bool,
     pub ready: bool,
+    pub clear: bool,
     pub reserved: bool,
     pub strb: u8,
 }

@@ -94,6 +94,6 @@ pub fn agree_in_all(
 }
 
 /// Fails where a comparison finds no difference.
-pub fn differ(cases: u64, compare: impl Fn(&Random) -> Compared) {
+pub fn differ<T>(cases: u64, compare: impl Fn(&Random) -> Result<T, String>) {
     assert!((0..cases).any(|seed| compare(&Random::new(seed)).is_err()));
 }

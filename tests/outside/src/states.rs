@@ -111,20 +111,22 @@ pub fn started_monitor(random: &Random) -> Monitor {
 
 /// Changes one field of a record, numbers mostly to where a test of its form begins.
 pub fn damage_monitor(random: &Random, record: &mut Monitor) {
-    let about = random.pick(&[record.cycles, record.cycle, record.handshakes, 1]);
+    let other = random.pick(&[0, record.handshakes, record.clears]);
+    let about = random.pick(&[record.cycles, record.cycle, other, 0, 1]);
     let near = about.wrapping_sub(1).wrapping_add(random.word() % 3);
-    let number = random.pick(&[near, near, near, random.word()]);
-    match random.below(11) {
+    let number = random.pick(&[near, near, near.wrapping_sub(other), random.word()]);
+    match random.below(12) {
         0 => record.seq = !record.seq,
         1 => record.cycles = number,
         2 => record.verdict = random.pick(&[0, 1, 2, 3, random.byte()]),
         3 => record.rule = random.pick(&[0, 2, 3, 4, 100, 101, random.byte()]),
         4 => record.cycle = number,
         5 => record.handshakes = number,
-        6 => record.stalled = !record.stalled,
-        7 => record.payload.data = random.pick(&[0, 1, random.word()]),
-        8 => record.payload.strb = random.pick(&[0, 1, 15, 16, random.byte()]),
-        9 => record.counted = !record.counted,
+        6 => record.clears = number,
+        7 => record.stalled = !record.stalled,
+        8 => record.payload.data = random.pick(&[0, 1, random.word()]),
+        9 => record.payload.strb = random.pick(&[0, 1, 15, 16, random.byte()]),
+        10 => record.counted = !record.counted,
         _ => record.due = random.pick(&[0, 1, 65_535, 65_536, random.word()]),
     }
 }

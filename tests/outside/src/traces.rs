@@ -28,24 +28,80 @@ fn strobes(random: &Random, counted: bool) -> u8 {
     (random.below(4) << 2 | low) as u8
 }
 
+/// In which cycles of a stream clear is 1.
+#[derive(Clone, Copy)]
+pub enum Clears {
+    Never,
+    /// In one cycle of so many.
+    Each(usize),
+    /// In half of the cycles after a stall.
+    AfterStalls,
+    /// In the first and in the last cycle.
+    AtEnds,
+}
+
+impl Clears {
+    pub fn any(random: &Random) -> Self {
+        match random.below(8) {
+            0..=3 => Clears::Never,
+            4 | 5 => Clears::Each(random.pick(&[1, 2, 3, 8, 40, 300])),
+            6 => Clears::AfterStalls,
+            _ => Clears::AtEnds,
+        }
+    }
+
+    /// Whether clear is 1 in this of so many cycles.
+    fn drawn(self, random: &Random, cycle: usize, cycles: usize, stalled: bool) -> bool {
+        match self {
+            Clears::Never => false,
+            Clears::Each(n) => random.once_in(n),
+            Clears::AfterStalls => stalled && random.coin(),
+            Clears::AtEnds => cycle == 0 || cycle + 1 == cycles,
+        }
+    }
+}
+
+/// Makes cycles of an offer's trace clear; the other bits stay.
+pub fn set_clears(random: &Random, control: &mut [u8]) {
+    let clears = Clears::any(random);
+    let cycles = control.len();
+    let mut stalled = false;
+    for (cycle, byte) in control.iter_mut().enumerate() {
+        if clears.drawn(random, cycle, cycles, stalled) {
+            *byte |= 4;
+        }
+        stalled = *byte & 7 == 1;
+    }
+}
+
 /// A clean stream. A counter is in all of its payloads, in half, in a quarter (all strobes are as likely then), or in few.
 pub fn clean_stream(random: &Random, cycles: usize) -> (Vec<u8>, Vec<u32>) {
     let each = random.pick(&[1, 2, 4, 4, 300]);
-    drawn_stream(random, cycles, bias(random), bias(random), each)
+    let clears = Clears::any(random);
+    drawn_stream(random, cycles, bias(random), bias(random), each, clears)
 }
 
-/// A clean stream with so many valids and readies among eight cycles, and a counter once in `each` payloads.
+/// A clean stream with so many valids and readies among eight cycles, and a counter once in `each` payloads. A clear cycle ends a
+/// wait, and the counters go on anywhere after it; its other bits and its data are anything.
 pub fn drawn_stream(
     random: &Random,
     cycles: usize,
     valids: usize,
     readies: usize,
     each: usize,
+    clears: Clears,
 ) -> (Vec<u8>, Vec<u32>) {
     let mut counter = random.pick(&[0, 1, 65_533, random.word() as u16]);
     let mut waiting: Option<(u8, u32)> = None;
     let (mut control, mut data) = (Vec::new(), Vec::new());
-    for _ in 0..cycles {
+    for cycle in 0..cycles {
+        if clears.drawn(random, cycle, cycles, waiting.is_some()) {
+            control.push(random.byte() & 0xf7 | 4);
+            data.push(random.word());
+            counter = random.pick(&[counter, 0, 65_535, random.word() as u16]);
+            waiting = None;
+            continue;
+        }
         let offered = drawn(random, valids);
         let ready = drawn(random, readies);
         let valid = offered || waiting.is_some();
@@ -87,12 +143,13 @@ pub fn damage_stream(random: &Random, control: &mut Vec<u8>, data: &mut Vec<u32>
         return;
     }
     let at = place(random, length);
-    match random.below(24) {
-        0 => control[at] ^= random.pick(&[4, 8, 12]),
+    match random.below(26) {
+        0 => control[at] ^= random.pick(&[8, 12]),
         1..=5 => control[at] ^= 1,
         6..=10 => control[at] ^= 2,
         11..=13 => control[at] ^= 0x10 << random.below(4),
         14..=18 => data[at] ^= 1 << random.below(32),
+        19..=21 => control[at] ^= 4,
         _ => data[at] = data[at].wrapping_add(1),
     }
 }
@@ -101,7 +158,7 @@ pub fn damage_stream(random: &Random, control: &mut Vec<u8>, data: &mut Vec<u32>
 pub fn stream(random: &Random) -> (Vec<u8>, Vec<u32>) {
     let n = cycles(random);
     if random.once_in(20) {
-        let mask = random.pick(&[0xf3, 0xf3, 0x33, 0xff]);
+        let mask = random.pick(&[0xf3, 0xf7, 0x33, 0x37, 0xff]);
         let control = (0..n).map(|_| random.byte() & mask).collect();
         return (control, (0..n).map(|_| random.word() % 3).collect());
     }
@@ -137,7 +194,7 @@ pub fn spoil(random: &Random, (control, data): &mut Burst) {
         0 => control.push(random.byte()),
         1 => data.push(random.word()),
         _ if length == 0 => data.push(0),
-        _ => control[random.below(length)] |= random.pick(&[4, 8, 12]),
+        _ => control[random.below(length)] |= random.pick(&[8, 12]),
     }
 }
 

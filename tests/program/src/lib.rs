@@ -19,7 +19,7 @@ pub struct Program {
 pub const BENCH: Program = Program {
     name: "bench",
     text: include_bytes!("../../../examples/whole-case.trace"),
-    report: "kind=stream\ncycles=5\nverdict=broken\nrule=2\nat=4\nhandshakes=1\n",
+    report: "kind=stream\ncycles=5\nverdict=broken\nrule=2\nat=4\nhandshakes=1\nclears=0\n",
 };
 
 /// Every program that an engineer runs.

@@ -8,7 +8,7 @@ use std::process::Command;
 
 fn refused(rule: u8) -> Ended {
     reported(&format!(
-        "kind=none\ncycles=0\nverdict=refused\nrule={rule}\nat=0\nhandshakes=0\n"
+        "kind=none\ncycles=0\nverdict=refused\nrule={rule}\nat=0\nhandshakes=0\nclears=0\n"
     ))
 }
 
@@ -79,6 +79,11 @@ fn bad_input() {
             replaced("c=f300000013", "c=fb00000013"),
             2,
         ),
+        (
+            "a reserved bit in a clear",
+            replaced("c=f300000013", "c=0c00000013"),
+            2,
+        ),
     ];
     for (name, text, rule) in bad {
         for size in [text.len() / 20 + 1, 1 << 20] {
@@ -145,20 +150,21 @@ fn long_texts(entry: impl Fn(usize) -> String, report: &str) -> Vec<(Vec<u8>, En
 fn clean() -> Vec<(Vec<u8>, Ended)> {
     long_texts(
         |cycle| format!("c=f3{cycle:08x}\n"),
-        "kind=stream\ncycles=4096\nverdict=clean\nrule=0\nat=0\nhandshakes=4096\n",
+        "kind=stream\ncycles=4096\nverdict=clean\nrule=0\nat=0\nhandshakes=4096\nclears=0\n",
     )
 }
 
-/// The last cycle withdraws the valid of the one before.
+/// The last cycle withdraws the valid of the one before. The first thousand are clear.
 fn broken() -> Vec<(Vec<u8>, Ended)> {
     let control = |cycle: usize| match cycle {
+        0..1_000 => "f7",
         4_094 => "f1",
         4_095 => "f2",
         _ => "f3",
     };
     long_texts(
         |cycle| format!("c={}{cycle:08x}\n", control(cycle)),
-        "kind=stream\ncycles=4096\nverdict=broken\nrule=4\nat=4095\nhandshakes=4094\n",
+        "kind=stream\ncycles=4096\nverdict=broken\nrule=4\nat=4095\nhandshakes=3094\nclears=1000\n",
     )
 }
 

@@ -1,4 +1,4 @@
-//! "Bench text": the report of a text.
+//! "Bench text", with request T-09: the report of a text.
 
 use super::stream::check_stream;
 use crate::answers::{Filled, BROKEN, CLEAN, NONE, SEQ};
@@ -70,7 +70,7 @@ fn trace(text: &[u8]) -> Result<Trace, u8> {
 }
 
 fn refused(number: u8) -> String {
-    format!("kind=none\ncycles=0\nverdict=refused\nrule={number}\nat=0\nhandshakes=0\n")
+    format!("kind=none\ncycles=0\nverdict=refused\nrule={number}\nat=0\nhandshakes=0\nclears=0\n")
 }
 
 /// The report of a text of any bytes.
@@ -90,8 +90,9 @@ pub fn report_of(text: &[u8]) -> String {
         SEQ => "seq".to_string(),
         number => number.to_string(),
     };
-    let (cycles, at, handshakes) = (t.control.len(), answer.cycle, answer.handshakes);
-    format!("kind=stream\ncycles={cycles}\nverdict={verdict}\nrule={rule}\nat={at}\nhandshakes={handshakes}\n")
+    let (cycles, at) = (t.control.len(), answer.cycle);
+    let (handshakes, clears) = (answer.handshakes, answer.clears);
+    format!("kind=stream\ncycles={cycles}\nverdict={verdict}\nrule={rule}\nat={at}\nhandshakes={handshakes}\nclears={clears}\n")
 }
 
 /// The report at the start of a lent output; one that is too short is refused with 7.

@@ -1,4 +1,4 @@
-//! "The stage and the line": a line of stages, by its value.
+//! "The stage and the line", with request T-09: a line of stages, by its value.
 
 use super::fifo::{legal_depth, refused, Shown, Stage, NOTHING};
 use super::MAX_CYCLES;
@@ -16,6 +16,10 @@ impl Line {
         }
         let stages: Option<Vec<Stage>> = chain.fifos[..chain.count].iter().map(Stage::of).collect();
         stages.map(Line)
+    }
+
+    fn clear(&mut self) {
+        self.0.iter_mut().for_each(|stage| stage.held.clear());
     }
 
     /// One cycle with no clear. Every stage sees its neighbours as they are at the cycle's start.
@@ -63,7 +67,7 @@ pub fn step(
         return (refused(2), None);
     }
     if clear {
-        line.0.iter_mut().for_each(|stage| stage.held.clear());
+        line.clear();
         return (refused(0), Some(line));
     }
     let shown = line.cycle(valid.then_some(payload), sink);
@@ -100,13 +104,19 @@ pub fn run(
     let Some(mut line) = line else {
         return (6, None);
     };
-    if control.iter().any(|c| c & 0b1100 != 0) || sink.iter().any(|&s| s > 1) {
+    if control.iter().any(|c| c & 8 != 0) || sink.iter().any(|&s| s > 1) {
         return (2, None);
     }
     if out_control.len() < n || out_data.len() < n {
         return (7, None);
     }
     for c in 0..n {
+        if control[c] & 4 != 0 {
+            line.clear();
+            out_control[c] = sink[c] << 1 | 4;
+            out_data[c] = 0;
+            continue;
+        }
         let payload = Payload {
             data: data[c],
             strb: control[c] >> 4,

@@ -1,4 +1,4 @@
-//! Request T-05: a stream that is checked in bursts, by what its record says.
+//! Requests T-05 and T-09: a stream that is checked in bursts, by what its record says.
 
 use super::fifo::NOTHING;
 use crate::answers::{Monitor, Payload, BROKEN, CLEAN, SEQ};
@@ -9,6 +9,7 @@ struct Watch {
     seq: bool,
     cycles: u32,
     handshakes: u32,
+    clears: u32,
     found: Found,
 }
 
@@ -35,6 +36,7 @@ impl Watch {
             seq: record.seq,
             cycles: record.cycles,
             handshakes: record.handshakes,
+            clears: record.clears,
             found,
         };
         (watch.kept() == *record && watch.possible()).then_some(watch)
@@ -45,6 +47,7 @@ impl Watch {
         let mut record = Monitor {
             cycles: self.cycles,
             handshakes: self.handshakes,
+            clears: self.clears,
             ..fresh(self.seq)
         };
         match self.found {
@@ -63,22 +66,29 @@ impl Watch {
         record
     }
 
-    /// Whether its cycles have room for the handshakes, and for what else must have been seen.
+    /// How many of so many cycles were neither handshakes nor clear, unless the two are more.
+    fn others(&self, cycles: u32) -> Option<u32> {
+        cycles
+            .checked_sub(self.handshakes)?
+            .checked_sub(self.clears)
+    }
+
+    /// Whether its cycles have room for the handshakes and the clears, and for what else must have been seen.
     fn possible(&self) -> bool {
-        let handshakes = self.handshakes;
         match self.found {
             Found::Clean(waiting, due) => {
-                let others = self.cycles.checked_sub(handshakes);
+                let others = self.others(self.cycles);
                 others.is_some_and(|cycles| cycles > 0 || waiting.is_none())
                     && waiting.is_none_or(|payload| payload.strb < 16)
-                    && due.is_none_or(|_| self.seq && handshakes > 0)
+                    && due.is_none_or(|_| self.seq && self.handshakes > 0)
             }
             Found::Broken(rule, cycle) => {
+                let others = self.others(cycle);
                 let enough = match rule {
                     // The cycle before the broken one stalled.
-                    4 | 2 => handshakes < cycle,
+                    4 | 2 => others.is_some_and(|cycles| cycles > 0),
                     // A counter was carried before.
-                    SEQ => self.seq && (1..=cycle).contains(&handshakes),
+                    SEQ => self.seq && self.handshakes > 0 && others.is_some(),
                     _ => false,
                 };
                 enough && cycle < self.cycles
@@ -87,28 +97,35 @@ impl Watch {
     }
 
     fn cycle(&mut self, control: u8, data: u32) {
-        if let Found::Clean(waiting, due) = self.found {
-            let (valid, ready) = (control & 1 != 0, control & 2 != 0);
-            let shown = Payload {
-                data,
-                strb: control >> 4,
-            };
-            let carries = self.seq && valid && ready && shown.strb & 3 == 3;
-            let counter = carries.then_some(data as u16);
-            let breach = match (waiting, due, counter) {
-                (Some(_), _, _) if !valid => Some(4),
-                (Some(held), _, _) if held != shown => Some(2),
-                (_, Some(due), Some(counter)) if counter != due => Some(SEQ),
-                _ => None,
-            };
-            self.found = match breach {
-                Some(rule) => Found::Broken(rule, self.cycles),
-                None => {
-                    self.handshakes += u32::from(valid && ready);
-                    let next = counter.map(|counter| counter.wrapping_add(1));
-                    Found::Clean((valid && !ready).then_some(shown), next.or(due))
-                }
-            };
+        match self.found {
+            Found::Clean(..) if control & 4 != 0 => {
+                self.clears += 1;
+                self.found = Found::Clean(None, None);
+            }
+            Found::Clean(waiting, due) => {
+                let (valid, ready) = (control & 1 != 0, control & 2 != 0);
+                let shown = Payload {
+                    data,
+                    strb: control >> 4,
+                };
+                let carries = self.seq && valid && ready && shown.strb & 3 == 3;
+                let counter = carries.then_some(data as u16);
+                let breach = match (waiting, due, counter) {
+                    (Some(_), _, _) if !valid => Some(4),
+                    (Some(held), _, _) if held != shown => Some(2),
+                    (_, Some(due), Some(counter)) if counter != due => Some(SEQ),
+                    _ => None,
+                };
+                self.found = match breach {
+                    Some(rule) => Found::Broken(rule, self.cycles),
+                    None => {
+                        self.handshakes += u32::from(valid && ready);
+                        let next = counter.map(|counter| counter.wrapping_add(1));
+                        Found::Clean((valid && !ready).then_some(shown), next.or(due))
+                    }
+                };
+            }
+            Found::Broken(..) => {}
         }
         self.cycles += 1;
     }
@@ -122,6 +139,7 @@ pub fn fresh(seq: bool) -> Monitor {
         rule: 0,
         cycle: 0,
         handshakes: 0,
+        clears: 0,
         stalled: false,
         payload: NOTHING,
         counted: false,
@@ -145,7 +163,7 @@ pub fn feed(record: &mut Monitor, control: &[u8], data: &[u32]) -> u8 {
     let Some(mut watch) = Watch::of(record) else {
         return 6;
     };
-    if control.iter().any(|c| c & 0b1100 != 0) {
+    if control.iter().any(|c| c & 8 != 0) {
         return 2;
     }
     for (&c, &d) in control.iter().zip(data) {

@@ -1,41 +1,50 @@
-//! "Stream rules": the verdict on a stream's trace.
+//! "Stream rules", with requests T-04 and T-09: the verdict on a stream's trace.
 
 use super::{earliest, MAX_CYCLES};
 use crate::answers::{StreamAnswer, BROKEN, CLEAN, NONE, SEQ};
 
-fn answer(verdict: u8, rule: u8, cycle: usize, handshakes: usize) -> StreamAnswer {
-    StreamAnswer {
-        refusal: 0,
-        verdict,
-        rule,
-        cycle: cycle as u32,
-        handshakes: handshakes as u32,
-    }
-}
-
 fn refused(number: u8) -> StreamAnswer {
     StreamAnswer {
         refusal: number,
-        ..answer(NONE, 0, 0, 0)
+        verdict: NONE,
+        rule: 0,
+        cycle: 0,
+        handshakes: 0,
+        clears: 0,
     }
 }
 
-/// A handshake carries a counter where the strobes of bytes 0 and 1 are both 1.
-fn carries_counter(control: u8) -> bool {
-    control & 0x30 == 0x30
+/// What the rules read in a control byte.
+#[derive(Clone, Copy)]
+pub struct Reading {
+    /// The trace is refused for it.
+    pub reserved: fn(u8) -> bool,
+    pub handshake: fn(u8) -> bool,
+    /// A handshake that carries a counter: the strobes of bytes 0 and 1 are both 1.
+    pub carrier: fn(u8) -> bool,
+    /// The next cycle has to show the same.
+    pub stall: fn(u8) -> bool,
+    /// The cycle is held to what stalled before it.
+    pub held: fn(u8) -> bool,
+    /// Counters before and after the cycle are not compared.
+    pub afresh: fn(u8) -> bool,
 }
+
+pub const RULES: Reading = Reading {
+    reserved: |c| c & 8 != 0,
+    handshake: |c| c & 7 == 3,
+    carrier: |c| c & 0x37 == 0x33,
+    stall: |c| c & 7 == 1,
+    held: |c| c & 4 == 0,
+    afresh: |c| c & 4 != 0,
+};
 
 pub fn check_stream(control: &[u8], data: &[u32], seq: bool) -> StreamAnswer {
-    check_stream_by(control, data, seq, carries_counter)
+    check_stream_by(&RULES, control, data, seq)
 }
 
-/// The same with another test, of its control byte, for whether a handshake carries a counter.
-pub fn check_stream_by(
-    control: &[u8],
-    data: &[u32],
-    seq: bool,
-    carries: impl Fn(u8) -> bool,
-) -> StreamAnswer {
+/// The same with another reading of control bytes.
+pub fn check_stream_by(by: &Reading, control: &[u8], data: &[u32], seq: bool) -> StreamAnswer {
     let n = control.len();
     if n != data.len() {
         return refused(1);
@@ -43,45 +52,44 @@ pub fn check_stream_by(
     if n > MAX_CYCLES {
         return refused(3);
     }
-    if control.iter().any(|c| c & 0b1100 != 0) {
+    if control.iter().any(|&c| (by.reserved)(c)) {
         return refused(2);
     }
-    judged_by(control, data, seq, carries)
+    judged_by(by, control, data, seq)
 }
 
 /// The verdict on a legal trace of any length.
 pub fn judged(control: &[u8], data: &[u32], seq: bool) -> StreamAnswer {
-    judged_by(control, data, seq, carries_counter)
+    judged_by(&RULES, control, data, seq)
 }
 
-fn judged_by(
-    control: &[u8],
-    data: &[u32],
-    seq: bool,
-    carries: impl Fn(u8) -> bool,
-) -> StreamAnswer {
+fn judged_by(by: &Reading, control: &[u8], data: &[u32], seq: bool) -> StreamAnswer {
     let n = control.len();
     let valid = |c: usize| control[c] & 1 != 0;
-    let ready = |c: usize| control[c] & 2 != 0;
     let payload = |c: usize| (control[c] >> 4, data[c]);
+    let duty = |c: usize| (by.stall)(control[c - 1]) && (by.held)(control[c]);
+    let carrier = |c: usize| (by.carrier)(control[c]);
     let counter = |c: usize| data[c] as u16;
-    let duty = |c: usize| valid(c - 1) && !ready(c - 1);
-    let handshakes: Vec<usize> = (0..n).filter(|&c| valid(c) && ready(c)).collect();
-    let mut carriers = handshakes.clone();
-    carriers.retain(|&c| carries(control[c]));
+    let mut carriers_and_clears: Vec<usize> = (0..n).collect();
+    carriers_and_clears.retain(|&c| carrier(c) || (by.afresh)(control[c]));
 
     let rule_4 = (1..n).find(|&c| duty(c) && !valid(c));
     let rule_2 = (1..n).find(|&c| duty(c) && valid(c) && payload(c) != payload(c - 1));
-    let rule_seq = carriers
+    let rule_seq = carriers_and_clears
         .windows(2)
+        .filter(|pair| carrier(pair[0]) && carrier(pair[1]))
         .find(|pair| counter(pair[1]) != counter(pair[0]).wrapping_add(1))
         .map(|pair| pair[1])
         .filter(|_| seq);
-    match earliest(&[(4, rule_4), (2, rule_2), (SEQ, rule_seq)]) {
-        None => answer(CLEAN, 0, 0, handshakes.len()),
-        Some((rule, cycle)) => {
-            let before = handshakes.iter().filter(|&&c| c < cycle).count();
-            answer(BROKEN, rule, cycle, before)
-        }
+    let breach = earliest(&[(4, rule_4), (2, rule_2), (SEQ, rule_seq)]);
+    let (verdict, rule, cycle) = breach.map_or((CLEAN, 0, 0), |(r, c)| (BROKEN, r, c));
+    let before = &control[..breach.map_or(n, |(_, c)| c)];
+    StreamAnswer {
+        refusal: 0,
+        verdict,
+        rule,
+        cycle: cycle as u32,
+        handshakes: before.iter().filter(|&&c| (by.handshake)(c)).count() as u32,
+        clears: before.iter().filter(|&&c| c & 4 != 0).count() as u32,
     }
 }

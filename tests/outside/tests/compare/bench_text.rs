@@ -110,8 +110,13 @@ fn compare_text(
     same("text", &text, &&before[..])?;
     let report = bench_text::report_of(&before);
     let lines: Vec<&str> = report.lines().collect();
+    let cleared = if lines[6] == "clears=0" {
+        ""
+    } else {
+        " cleared"
+    };
     let short = if model.refusal == 7 { " short" } else { "" };
-    Ok(format!("{} {}{short}", lines[2], lines[3]))
+    Ok(format!("{} {}{cleared}{short}", lines[2], lines[3]))
 }
 
 pub fn compare(random: &Random, call: impl Fn(&[u8], &mut [u8]) -> Filled) -> Compared {
@@ -123,8 +128,11 @@ pub fn compare(random: &Random, call: impl Fn(&[u8], &mut [u8]) -> Filled) -> Co
 fn report() {
     let mut kinds = Vec::new();
     for short in ["", " short"] {
-        kinds.push(format!("verdict=clean rule=0{short}"));
-        kinds.extend(["4", "2", "seq"].map(|rule| format!("verdict=broken rule={rule}{short}")));
+        for cleared in ["", " cleared"] {
+            let broken = |rule| format!("verdict=broken rule={rule}{cleared}{short}");
+            kinds.push(format!("verdict=clean rule=0{cleared}{short}"));
+            kinds.extend(["4", "2", "seq"].map(broken));
+        }
         kinds.extend(["9", "3", "2"].map(|rule| format!("verdict=refused rule={rule}{short}")));
     }
     let kinds: Vec<&str> = kinds.iter().map(String::as_str).collect();
@@ -149,11 +157,13 @@ fn report_on_long_texts() {
     });
 }
 
-/// The longest report has 72 bytes: 4,096 cycles, of which the last breaks rule seq. It fits just that room.
+/// The longest report has 84 bytes: 4,096 cycles, of which the last breaks rule seq after 1,000 clears and more handshakes. It
+/// fits just that room.
 #[test]
 fn longest_report() {
     let mut text = String::from("kind=stream\nseq=on\ncycles=4096\n");
-    for counter in (0..4_095).chain([0]) {
+    text.push_str(&"c=f700000009\n".repeat(1_000));
+    for counter in (0..3_095).chain([0]) {
         text.push_str(&format!("c=f3{counter:08x}\n"));
     }
     assert_eq!(
@@ -161,19 +171,19 @@ fn longest_report() {
         53_280 - 1,
         "seq=on is a byte shorter than seq=off"
     );
-    let report = "kind=stream\ncycles=4096\nverdict=broken\nrule=seq\nat=4095\nhandshakes=4095\n";
-    assert_eq!(report.len(), 72);
-    let mut out = [0; 72];
+    let report = "kind=stream\ncycles=4096\nverdict=broken\nrule=seq\nat=4095\nhandshakes=3095\nclears=1000\n";
+    assert_eq!(report.len(), 84);
+    let mut out = [0; 84];
     let answer = linked::report(text.as_bytes(), &mut out);
     assert_eq!(
         answer,
         Filled {
             refusal: 0,
-            count: 72
+            count: 84
         }
     );
     assert_eq!(out, report.as_bytes());
-    let mut short = [0; 71];
+    let mut short = [0; 83];
     let answer = linked::report(text.as_bytes(), &mut short);
     assert_eq!(
         answer,
@@ -182,5 +192,5 @@ fn longest_report() {
             count: 0
         }
     );
-    assert_eq!(short, [0; 71]);
+    assert_eq!(short, [0; 83]);
 }

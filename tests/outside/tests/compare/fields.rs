@@ -10,10 +10,12 @@ fn fields_of_control_bytes() {
         let stream = StreamFields {
             valid: bit(0),
             ready: bit(1),
-            reserved: bit(2) || bit(3),
+            clear: bit(2),
+            reserved: bit(3),
             strb: control >> 4,
         };
         assert_eq!(linked::stream_fields(control), stream, "byte {control}");
+        assert_eq!(linked::any_reserved(&[control]), bit(3), "byte {control}");
         let memory = MemFields {
             req: bit(0),
             gnt: bit(1),
@@ -26,17 +28,18 @@ fn fields_of_control_bytes() {
 
 #[test]
 fn any_reserved() {
-    agree(20_000, &["false", "true"], |random| {
+    let kinds = ["false", "false, clear", "true", "true, clear"];
+    agree(20_000, &kinds, |random| {
         let mut control = random.bytes(random.below(40));
-        if random.coin() {
-            control.iter_mut().for_each(|byte| *byte &= 0xf3);
-        }
-        let model = control.iter().any(|byte| byte & 0x0c != 0);
+        let mask = random.pick(&[0xff, 0xfb, 0xf7, 0xf3]);
+        control.iter_mut().for_each(|byte| *byte &= mask);
+        let model = control.iter().any(|byte| byte & 8 != 0);
         same(
             "reserved",
             &(linked::any_reserved(&control), &control),
             &(model, &control),
         )?;
-        Ok(model.to_string())
+        let clear = control.iter().any(|byte| byte & 4 != 0);
+        Ok(format!("{model}{}", ["", ", clear"][usize::from(clear)]))
     });
 }

@@ -1,7 +1,7 @@
 //! Records that no bursts could have left, and records that may see few cycles more.
 
 use crate::monitor::fed;
-use outside::answers::{Monitor, Payload, BROKEN, SEQ};
+use outside::answers::{Monitor, Payload, BROKEN, CLEAN, SEQ};
 use outside::linked;
 use outside::models::monitor::fresh;
 use outside::traces::Burst;
@@ -46,6 +46,10 @@ fn with(handshakes: u32, record: Monitor) -> Monitor {
         handshakes,
         ..record
     }
+}
+
+fn cleared(clears: u32, record: Monitor) -> Monitor {
+    Monitor { clears, ..record }
 }
 
 /// How a burst is refused by the call, which leaves the same record as the model.
@@ -104,27 +108,88 @@ fn tests() -> Vec<Test> {
     ]
 }
 
+/// The tests of the room for clears beside handshakes.
+fn tests_of_clears() -> Vec<Test> {
+    const MOST: u32 = u32::MAX;
+    let alone = |record| cleared(4, with(0, record));
+    vec![
+        ("more clears than cycles", alone(clean()), |m| m.clears = 5),
+        ("a clear too many", cleared(2, clean()), |m| m.clears = 3),
+        ("a handshake too many", cleared(2, clean()), |m| {
+            m.handshakes = 3
+        }),
+        ("a cycle too few", cleared(2, clean()), |m| m.cycles = 3),
+        ("no cycle for the stall", cleared(1, stalled()), |m| {
+            m.clears = 2
+        }),
+        (
+            "a counter and clears alone",
+            cleared(3, with(1, counted())),
+            |m| m.handshakes = 0,
+        ),
+        ("rule 4, no stall", broken(4), |m| m.clears = 1),
+        ("rule 2, no stall", broken(2), |m| m.clears = 1),
+        (
+            "rule 4, clears alone",
+            cleared(2, with(0, broken(4))),
+            |m| m.clears = 3,
+        ),
+        (
+            "rule 2, clears alone",
+            cleared(2, with(0, broken(2))),
+            |m| m.clears = 3,
+        ),
+        ("rule seq, a clear too many", cleared(1, broken(SEQ)), |m| {
+            m.clears = 2
+        }),
+        (
+            "rule seq, clears alone",
+            cleared(2, with(1, broken(SEQ))),
+            |m| m.handshakes = 0,
+        ),
+        ("clean, sum 2^32", clean(), |m| m.clears = MOST - 1),
+        ("clean, sum 2^32 + 1", clean(), |m| m.clears = MOST),
+        ("stalled, sum 2^32 with the stall", stalled(), |m| {
+            m.clears = MOST - 2
+        }),
+        ("counted, sum 2^32", counted(), |m| m.clears = MOST - 1),
+        ("rule 4, sum 2^32 with the stall", broken(4), |m| {
+            m.clears = MOST - 2
+        }),
+        ("rule 2, sum 2^32", broken(2), |m| m.clears = MOST - 1),
+        ("rule seq, sum 2^32", broken(SEQ), |m| m.clears = MOST - 1),
+        (
+            "handshakes 2^32 - 1 and a clear",
+            cleared(1, clean()),
+            |m| m.handshakes = MOST,
+        ),
+    ]
+}
+
 /// Each test of refusal 6 by itself, beside a record that passes it, with bursts that are good, refused before it and after it.
 #[test]
 fn each_test_of_a_record() {
-    for (name, well, damage) in tests() {
+    for (name, well, damage) in [tests(), tests_of_clears()].concat() {
         let mut damaged = well;
         damage(&mut damaged);
         for (record, number, reserved) in [(well, Ok(0), Ok(2)), (damaged, Ok(6), Ok(6))] {
             assert_eq!(refusal(record, &[], &[]), number, "{name}");
             assert_eq!(refusal(record, &[0xf3], &[65_535]), number, "{name}");
-            assert_eq!(refusal(record, &[1, 5], &[0, 0]), reserved, "{name}");
+            assert_eq!(refusal(record, &[4, 0xf7], &[1, 9]), number, "{name}");
+            assert_eq!(refusal(record, &[1, 9], &[0, 0]), reserved, "{name}");
+            assert_eq!(refusal(record, &[4, 12], &[0, 0]), reserved, "{name}");
             assert_eq!(refusal(record, &[0xf3, 8], &[0]), Ok(1), "{name}");
         }
     }
 }
 
-/// Bursts of one cycle: every valid and ready, with two strobes and three words.
+/// Bursts of one cycle: every valid, ready and clear, with two strobes and three words.
 fn one_cycle() -> Vec<Burst> {
-    let controls = [0, 1, 2, 3, 0x30, 0x31, 0x32, 0x33];
+    let strobes = |low: u8| [low, 0x30 | low];
+    let controls = [0, 1, 2, 3, 4, 5, 6, 7].map(strobes).concat();
     let words = [0, 7, 65_535];
-    let bursts = controls.map(|control| words.map(|word| (vec![control], vec![word])));
-    bursts.concat()
+    let with_words = |control: u8| words.map(|word| (vec![control], vec![word]));
+    controls.into_iter().flat_map(with_words).collect()
 }
 
 /// The records that up to so many of these bursts leave.
@@ -165,6 +230,7 @@ fn small_records() {
     records = each(records, &[0, 2, 3, 4, 100], |m, n| m.rule = n);
     records = each(records, &[0, 1, 2, 3, 4, 5], |m, n| m.cycle = n);
     records = each(records, &[0, 1, 2, 3, 4, 5, 6], |m, n| m.handshakes = n);
+    records = each(records, &[0, 1, 2, 3, 4, 5, 6], |m, n| m.clears = n);
     records = each(records, &[false, true], |m, stalled| m.stalled = stalled);
     records = each(records, &[0, 7, 65_535], |m, word| m.payload.data = word);
     records = each(records, &[0, 3, 16], |m, strb| m.payload.strb = strb);
@@ -180,6 +246,48 @@ fn small_records() {
     assert_eq!(accepted, reached.len());
 }
 
+/// Records with counts of every size are accepted exactly when their cycles have room, by sums in 64 bits.
+#[test]
+fn large_records() {
+    let most = u32::MAX;
+    let half = 1 << 31;
+    let sizes = [0, 1, 2, half - 1, half, half + 1, most - 2, most - 1, most];
+    let forms = [
+        clean(),
+        stalled(),
+        counted(),
+        broken(4),
+        broken(2),
+        broken(SEQ),
+    ];
+    let mut records = forms.to_vec();
+    records = each(records, &sizes, |m, n| m.cycles = n);
+    records = each(records, &sizes, |m, n| m.handshakes = n);
+    records = each(records, &sizes, |m, n| m.clears = n);
+    let (broken, clean): (Vec<Monitor>, Vec<Monitor>) = records
+        .into_iter()
+        .partition(|record| record.verdict == BROKEN);
+    records = clean;
+    records.extend(each(broken, &sizes, |m, n| m.cycle = n));
+    let mut accepted = 0;
+    for record in records {
+        let [cycles, cycle] = [record.cycles, record.cycle].map(u64::from);
+        let both = u64::from(record.handshakes) + u64::from(record.clears);
+        let legal = match (record.verdict, record.rule) {
+            (CLEAN, _) => {
+                both + u64::from(record.stalled) <= cycles
+                    && (record.handshakes > 0 || !record.counted)
+            }
+            (_, SEQ) => record.handshakes > 0 && both <= cycle && cycle < cycles,
+            _ => both < cycle && cycle < cycles,
+        };
+        let number = if legal { 0 } else { 6 };
+        assert_eq!(refusal(record, &[], &[]), Ok(number), "{record:?}");
+        accepted += usize::from(legal);
+    }
+    assert!(accepted > 500, "{accepted} accepted");
+}
+
 /// Bursts that just fit into the cycles that a record may see, and that just do not, whatever else is wrong with them.
 #[test]
 fn the_most_cycles() {
@@ -193,10 +301,12 @@ fn the_most_cycles() {
             ..record
         };
         for n in [0, 1, left, left + 1] {
-            let (idle, reserved, words) = (vec![0; n], vec![4; n], vec![0; n]);
+            let (idle, reserved, words) = (vec![0; n], vec![8; n], vec![0; n]);
+            let clears = vec![4; n];
             let fits = |number| Ok(if n > left { 3 } else { number });
             let or_reserved = if n > 0 { 2 } else { 0 };
             assert_eq!(refusal(record, &idle, &words), fits(0));
+            assert_eq!(refusal(record, &clears, &words), fits(0));
             assert_eq!(refusal(record, &reserved, &words), fits(or_reserved));
             assert_eq!(refusal(damaged, &idle, &words), fits(6));
             assert_eq!(refusal(damaged, &reserved, &words), fits(6));
@@ -205,7 +315,7 @@ fn the_most_cycles() {
     }
 }
 
-/// The last cycle that a record may see, and its handshakes and its broken cycle.
+/// The last cycle that a record may see, and its handshakes, its clears and its broken cycle.
 #[test]
 fn the_last_cycle() {
     let most = u32::MAX;
@@ -239,5 +349,32 @@ fn the_last_cycle() {
     assert_eq!(broken, want);
     assert_eq!(linked::monitor_feed(&mut broken, &[], &[]), 0);
     assert_eq!(linked::monitor_feed(&mut broken, &[0], &[0]), 3);
+    assert_eq!(broken, want);
+
+    let mut record = Monitor {
+        cycles: most - 2,
+        clears: most - 2,
+        ..fresh(true)
+    };
+    let mut broken = record;
+    assert_eq!(linked::monitor_feed(&mut record, &[0xf7, 0xf5], &[0, 9]), 0);
+    let want = Monitor {
+        cycles: most,
+        clears: most,
+        ..fresh(true)
+    };
+    assert_eq!(record, want);
+    assert_eq!(linked::monitor_feed(&mut record, &[], &[]), 0);
+    assert_eq!(linked::monitor_feed(&mut record, &[4], &[0]), 3);
+    assert_eq!(record, want);
+    assert_eq!(linked::monitor_feed(&mut broken, &[1, 0], &[0, 0]), 0);
+    let want = Monitor {
+        cycles: most,
+        verdict: BROKEN,
+        rule: 4,
+        cycle: most - 1,
+        clears: most - 2,
+        ..fresh(true)
+    };
     assert_eq!(broken, want);
 }

@@ -1,13 +1,23 @@
 //! The comparisons can fail: each tells a call apart that is wrong in one thing.
 
 use crate::{addressgen, bench_text, chain, fifo, memory, monitor, mux, stream, strobes};
-use outside::answers::{Monitor, BROKEN};
+use outside::answers::{Chain, ChainRun, Monitor, Payload, StreamAnswer, BROKEN, CLEAN};
+use outside::models::chain::Offered;
 use outside::models::fifo::NOTHING;
-use outside::random::{differ, Compared, Random};
+use outside::models::stream::{check_stream_by, Reading, RULES};
+use outside::random::{differ, Random};
 use outside::{linked, models, states};
 
-fn differs(compare: impl Fn(&Random) -> Compared) {
+fn differs<T>(compare: impl Fn(&Random) -> Result<T, String>) {
     differ(2_000, compare);
+}
+
+fn clear(control: u8) -> bool {
+    control & 4 != 0
+}
+
+fn clears(control: &[u8]) -> u32 {
+    control.iter().filter(|&&c| clear(c)).count() as u32
 }
 
 #[test]
@@ -22,16 +32,97 @@ fn the_switch_exchanged() {
 #[test]
 fn other_handshakes_carry_a_counter() {
     let wrong: [fn(u8) -> bool; 5] = [
-        |_| true,
-        |control| control & 0x10 != 0,
-        |control| control & 0x20 != 0,
-        |control| control & 0x30 != 0,
-        |control| control >> 4 == 15,
+        |control| control & 7 == 3,
+        |control| control & 0x17 == 0x13,
+        |control| control & 0x27 == 0x23,
+        |control| control & 7 == 3 && control & 0x30 != 0,
+        |control| control & 0xf7 == 0xf3,
     ];
-    for carries in wrong {
+    for carrier in wrong {
+        reading_differs(Reading { carrier, ..RULES });
+    }
+}
+
+/// A checker that reads control bytes otherwise is told apart.
+fn reading_differs(wrong: Reading) {
+    differs(|random| {
+        stream::compare(random, |control, data, seq| {
+            check_stream_by(&wrong, control, data, seq)
+        })
+    });
+}
+
+#[test]
+fn a_clear_counted_as_a_handshake() {
+    let handshake = |control| control & 3 == 3;
+    reading_differs(Reading { handshake, ..RULES });
+}
+
+#[test]
+fn a_clear_that_lays_a_duty() {
+    let stall = |control| control & 3 == 1;
+    reading_differs(Reading { stall, ..RULES });
+}
+
+#[test]
+fn a_clear_that_is_judged() {
+    let held = |_| true;
+    reading_differs(Reading { held, ..RULES });
+    // By rule 4 alone, and by rule 2 alone.
+    let held = |control| control & 5 != 5;
+    reading_differs(Reading { held, ..RULES });
+    let held = |control| control & 5 != 4;
+    reading_differs(Reading { held, ..RULES });
+}
+
+#[test]
+fn counters_compared_across_a_clear() {
+    let afresh = |_| false;
+    reading_differs(Reading { afresh, ..RULES });
+}
+
+#[test]
+fn a_counter_seen_in_a_clear() {
+    let carrier = |control| control & 0x33 == 0x33;
+    reading_differs(Reading { carrier, ..RULES });
+}
+
+#[test]
+fn other_bits_reserved() {
+    let wrong: [fn(u8) -> bool; 4] = [
+        |control| control & 12 != 0,
+        |_| false,
+        |control| control & 12 == 8,
+        |control| control & 12 == 12,
+    ];
+    for reserved in wrong {
+        reading_differs(Reading { reserved, ..RULES });
+    }
+}
+
+#[test]
+fn other_clears_counted() {
+    let wrong: [fn(&[u8], &StreamAnswer) -> u32; 3] = [
+        // Past the broken cycle too.
+        |control, _| clears(control),
+        |_, _| 0,
+        // In a clean trace alone.
+        |_, answer| {
+            if answer.verdict == CLEAN {
+                answer.clears
+            } else {
+                0
+            }
+        },
+    ];
+    for count in wrong {
         differs(|random| {
             stream::compare(random, |control, data, seq| {
-                models::stream::check_stream_by(control, data, seq, carries)
+                let mut answer = linked::check_stream(control, data, seq);
+                if answer.refusal == 0 {
+                    answer.clears = count(control, &answer);
+                }
+                answer
             })
         });
     }
@@ -67,7 +158,6 @@ fn a_step_that_does_not_clear() {
         chain::compare_step(random, kept, |chain, valid, payload, sink, _| {
             linked::chain_step(chain, valid, payload, sink, false)
         })
-        .map(|back| back.1.to_string())
     });
 }
 
@@ -100,16 +190,150 @@ fn a_refused_state_altered() {
 
 #[test]
 fn an_entry_past_the_trace_altered() {
+    run_differs(|chain, offered, out_control, out_data| {
+        let ran = linked::chain_run(chain, offered, out_control, out_data);
+        if let Some(entry) = out_data.get_mut(offered.control.len()) {
+            *entry ^= 1;
+        }
+        ran
+    });
+}
+
+/// A wrong run of a chain is told apart.
+fn run_differs(wrong: impl Fn(Chain, &Offered, &mut [u8], &mut [u32]) -> ChainRun) {
     differs(|random| {
         let kept = states::well_chain(random);
-        chain::compare_run(random, kept, |chain, offered, out_control, out_data| {
-            let ran = linked::chain_run(chain, offered, out_control, out_data);
-            if let Some(entry) = out_data.get_mut(offered.control.len()) {
-                *entry ^= 1;
-            }
-            ran
-        })
-        .map(|back| back.1.to_string())
+        let offered = chain::offered(random);
+        chain::compare_run(random, kept, &offered, &wrong)
+    });
+}
+
+/// One cycle of a run: what the chain is after it, and the outlet's control byte and data.
+type Cycle = (Chain, u8, u32);
+
+/// The cycle of a chain with this offer and this ready of the sink, by the linked run.
+fn cycle(chain: Chain, control: u8, data: u32, sink: u8) -> Cycle {
+    let offered = Offered {
+        control: vec![control],
+        data: vec![data],
+        sink: vec![sink],
+    };
+    let (mut out_control, mut out_data) = ([0], [0]);
+    let ran = linked::chain_run(chain, &offered, &mut out_control, &mut out_data);
+    (ran.next, out_control[0], out_data[0])
+}
+
+/// A run whose clear cycles are these wrong ones is told apart.
+fn clear_differs(wrong: impl Fn(Chain, u8, u32, u8) -> Cycle) {
+    run_differs(|chain, offered, out_control, out_data| {
+        let mut ran = linked::chain_run(chain, offered, out_control, out_data);
+        if ran.refusal != 0 {
+            return ran;
+        }
+        ran.next = chain;
+        for c in 0..offered.control.len() {
+            let (control, data) = (offered.control[c], offered.data[c]);
+            let sink = offered.sink[c];
+            let (next, shown, word) = if clear(control) {
+                wrong(ran.next, control, data, sink)
+            } else {
+                cycle(ran.next, control, data, sink)
+            };
+            (ran.next, out_control[c], out_data[c]) = (next, shown, word);
+        }
+        ran
+    });
+}
+
+#[test]
+fn a_run_that_ignores_clear() {
+    clear_differs(|chain, control, data, sink| cycle(chain, control & !4, data, sink));
+    // It is written to the outlet nevertheless.
+    clear_differs(|chain, control, data, sink| {
+        let (next, shown, word) = cycle(chain, control & !4, data, sink);
+        (next, shown | 4, word)
+    });
+}
+
+#[test]
+fn a_run_that_keeps_payloads_over_a_clear() {
+    clear_differs(|chain, control, data, sink| {
+        let (_, shown, word) = cycle(chain, control, data, sink);
+        (chain, shown, word)
+    });
+    // In all FIFOs but the mouth's, and but the last.
+    clear_differs(|chain, control, data, sink| {
+        let (mut next, shown, word) = cycle(chain, control, data, sink);
+        next.fifos[1..].copy_from_slice(&chain.fifos[1..]);
+        (next, shown, word)
+    });
+    clear_differs(|chain, control, data, sink| {
+        let (mut next, shown, word) = cycle(chain, control, data, sink);
+        let last = chain.count - 1;
+        next.fifos[..last].copy_from_slice(&chain.fifos[..last]);
+        (next, shown, word)
+    });
+}
+
+#[test]
+fn a_run_that_accepts_an_offer_in_a_clear() {
+    clear_differs(|chain, control, data, sink| {
+        let (empty, shown, word) = cycle(chain, control, data, sink);
+        let (next, _, _) = cycle(empty, control & !4, data, sink);
+        (next, shown, word)
+    });
+}
+
+#[test]
+fn a_run_that_shows_its_outlet_in_a_clear() {
+    clear_differs(|chain, control, data, sink| {
+        let (_, shown, word) = cycle(chain, control & !4, data, sink);
+        let (next, _, _) = cycle(chain, control, data, sink);
+        (next, shown | 4, word)
+    });
+    // Its data or its strobes alone.
+    clear_differs(|chain, control, data, sink| {
+        let (_, _, word) = cycle(chain, control & !4, data, sink);
+        let (next, shown, _) = cycle(chain, control, data, sink);
+        (next, shown, word)
+    });
+    clear_differs(|chain, control, data, sink| {
+        let (_, outlet, _) = cycle(chain, control & !4, data, sink);
+        let (next, shown, word) = cycle(chain, control, data, sink);
+        (next, shown | outlet & 0xf0, word)
+    });
+}
+
+#[test]
+fn a_run_with_another_byte_in_a_clear() {
+    let wrong: [fn(u8, u8) -> u8; 4] = [
+        |shown, _| shown & !4,
+        |shown, _| shown & !2,
+        |shown, _| shown | 2,
+        // The offer's own.
+        |_, control| control,
+    ];
+    for byte in wrong {
+        clear_differs(|chain, control, data, sink| {
+            let (next, shown, word) = cycle(chain, control, data, sink);
+            (next, byte(shown, control), word)
+        });
+    }
+}
+
+#[test]
+fn a_run_with_other_bits_reserved() {
+    run_differs(|chain, offered, out_control, out_data| {
+        let mut ran = linked::chain_run(chain, offered, out_control, out_data);
+        if ran.refusal == 0 && clears(&offered.control) > 0 {
+            (ran.refusal, ran.next) = (2, chain);
+        }
+        ran
+    });
+    run_differs(|chain, offered, out_control, out_data| {
+        let mut legal = offered.clone();
+        legal.control.iter_mut().for_each(|c| *c &= !8);
+        linked::chain_run(chain, &legal, out_control, out_data)
     });
 }
 
@@ -153,6 +377,18 @@ fn a_plan_from_the_next_byte() {
 }
 
 #[test]
+fn a_report_without_its_last_line() {
+    differs(|random| {
+        bench_text::compare(random, |text, out| {
+            let mut filled = linked::report(text, out);
+            let last = out[..filled.count].iter().rposition(|&b| b == b'c');
+            filled.count = last.unwrap_or(0);
+            filled
+        })
+    });
+}
+
+#[test]
 fn a_last_line_feed_overlooked() {
     differs(|random| {
         bench_text::compare(random, |text, out| {
@@ -163,7 +399,7 @@ fn a_last_line_feed_overlooked() {
 
 /// A wrong feed differs from the right one after a burst, and in what its record says in the end.
 fn feed_differs(wrong: fn(&mut Monitor, &[u8], &[u32]) -> u8) {
-    differs(|random| monitor::compare(random, wrong).map(|kinds| kinds.len().to_string()));
+    differs(|random| monitor::compare(random, wrong));
     differs(|random| monitor::compare_end(random, wrong));
 }
 
@@ -201,7 +437,7 @@ fn a_refused_burst_fed_up_to_its_reserved_bit() {
     feed_differs(|record, control, data| {
         let refusal = linked::monitor_feed(record, control, data);
         if refusal == 2 {
-            let legal = control.split(|c| c & 0b1100 != 0).next().unwrap();
+            let legal = control.split(|c| c & 8 != 0).next().unwrap();
             linked::monitor_feed(record, legal, &data[..legal.len()]);
         }
         refusal
@@ -224,11 +460,135 @@ fn a_broken_record_broken_again() {
 }
 
 #[test]
+fn a_stall_in_a_clear_kept_at_a_cut() {
+    feed_differs(|record, control, data| {
+        let refusal = linked::monitor_feed(record, control, data);
+        let last = control.last().zip(data.last());
+        if let (0, CLEAN, Some((&c, &data))) = (refusal, record.verdict, last) {
+            // Where the cycles have room for it.
+            let others = record.cycles - record.handshakes - record.clears;
+            if c & 7 == 5 && others > 0 {
+                let strb = c >> 4;
+                (record.stalled, record.payload) = (true, Payload { data, strb });
+            }
+        }
+        refusal
+    });
+}
+
+#[test]
+fn a_stall_kept_over_a_clear() {
+    feed_differs(|record, control, data| {
+        let before = *record;
+        let refusal = linked::monitor_feed(record, control, data);
+        let last = control.last().is_some_and(|&c| clear(c));
+        if refusal == 0 && record.verdict == CLEAN && last {
+            (record.stalled, record.payload) = (before.stalled, before.payload);
+        }
+        refusal
+    });
+}
+
+#[test]
+fn a_counter_kept_over_a_clear() {
+    feed_differs(|record, control, data| {
+        let before = *record;
+        let refusal = linked::monitor_feed(record, control, data);
+        if record.verdict == CLEAN && !record.counted {
+            (record.counted, record.due) = (before.counted, before.due);
+        }
+        refusal
+    });
+}
+
+#[test]
+fn a_clear_counted_as_a_handshake_in_a_burst() {
+    feed_differs(|record, control, data| {
+        let refusal = linked::monitor_feed(record, control, data);
+        if refusal == 0 && control.last().is_some_and(|c| c & 7 == 7) {
+            record.handshakes += 1;
+        }
+        refusal
+    });
+}
+
+#[test]
+fn clears_that_grow_past_a_breach() {
+    // In the burst that breaks the record, and in those after it.
+    feed_differs(|record, control, data| {
+        let before = *record;
+        let refusal = linked::monitor_feed(record, control, data);
+        if refusal == 0 && before.verdict == CLEAN && record.verdict == BROKEN {
+            record.clears = before.clears + clears(control);
+        }
+        refusal
+    });
+    feed_differs(|record, control, data| {
+        let was = record.verdict;
+        let refusal = linked::monitor_feed(record, control, data);
+        if refusal == 0 && was == BROKEN {
+            record.clears += clears(control);
+        }
+        refusal
+    });
+}
+
+#[test]
+fn clears_forgotten() {
+    // At a breach, and at a cut.
+    feed_differs(|record, control, data| {
+        let refusal = linked::monitor_feed(record, control, data);
+        if record.verdict == BROKEN {
+            record.clears = 0;
+        }
+        refusal
+    });
+    feed_differs(|record, control, data| {
+        record.clears = 0;
+        linked::monitor_feed(record, control, data)
+    });
+}
+
+#[test]
+fn other_bits_reserved_in_a_burst() {
+    feed_differs(|record, control, data| {
+        let before = *record;
+        let refusal = linked::monitor_feed(record, control, data);
+        if refusal == 0 && clears(control) > 0 {
+            *record = before;
+            return 2;
+        }
+        refusal
+    });
+    feed_differs(|record, control, data| {
+        let legal: Vec<u8> = control.iter().map(|c| c & !8).collect();
+        linked::monitor_feed(record, &legal, data)
+    });
+}
+
+#[test]
 fn a_damaged_record_accepted() {
-    let wrong: [fn(&mut Monitor); 3] = [
+    let wrong: [fn(&mut Monitor); 6] = [
         |record| record.payload.strb &= 15,
         |record| record.due %= 65_536,
         |record| record.handshakes = record.handshakes.min(record.cycles),
+        |record| record.clears = record.clears.min(record.cycles),
+        // One clear more than its cycles have room for.
+        |record| {
+            let less = Monitor {
+                clears: record.clears.saturating_sub(1),
+                ..*record
+            };
+            if !models::monitor::legal(record) && models::monitor::legal(&less) {
+                *record = less;
+            }
+        },
+        // Where the sum of the counts, in 32 bits, would fit.
+        |record| {
+            if record.handshakes.checked_add(record.clears).is_none() {
+                record.clears = 0;
+            }
+        },
     ];
     for mend in wrong {
         differs(|random| {
@@ -246,7 +606,7 @@ type Ground = fn(&Monitor, &[u8]) -> Option<u8>;
 #[test]
 fn refusals_in_another_order() {
     let wrong: [Ground; 3] = [
-        |_, control| control.iter().any(|c| c & 0b1100 != 0).then_some(2),
+        |_, control| control.iter().any(|c| c & 8 != 0).then_some(2),
         |record, control| (control.len() > (u32::MAX - record.cycles) as usize).then_some(3),
         |record, _| (!models::monitor::legal(record)).then_some(6),
     ];

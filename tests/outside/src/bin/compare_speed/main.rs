@@ -8,7 +8,7 @@ use outside::models::addressgen::START;
 use outside::models::chain::{Line, Offered};
 use outside::models::fifo::Stage;
 use outside::random::Random;
-use outside::traces::drawn_stream;
+use outside::traces::{drawn_stream, Clears};
 use plain::{ByComparison, ByRemainder};
 use std::cell::Cell;
 use std::hint::black_box;
@@ -102,7 +102,7 @@ fn stream(what: &str, traces: &[Trace], seq: bool, want: (u8, u8, usize)) {
 
 /// Streams that are stalled before their last cycle, so that this one can break rule 4. Their strobes are of all sixteen values.
 fn random_handshakes(random: &Random) -> Vec<Trace> {
-    std::iter::repeat_with(|| drawn_stream(random, CYCLES, 6, 5, 4))
+    std::iter::repeat_with(|| drawn_stream(random, CYCLES, 6, 5, 4, Clears::Never))
         .filter(|(control, _)| control[CYCLES - 2] & 3 == 1)
         .take(TRACES)
         .collect()
@@ -135,6 +135,18 @@ fn streams(random: &Random) {
     traces[0].1[last] = 0;
     let broken = "stream, always valid and ready, broken at the last cycle";
     stream(broken, &traces, true, (BROKEN, SEQ, last));
+}
+
+/// Streams in which one cycle of sixteen is clear.
+fn cleared_streams() {
+    let random = &Random::new(16);
+    let traces: Vec<Trace> = (0..TRACES)
+        .map(|_| drawn_stream(random, CYCLES, 6, 5, 4, Clears::Each(16)))
+        .collect();
+    let what = "stream, random handshakes, one in sixteen clear";
+    stream(what, &traces, false, (CLEAN, 0, 0));
+    let what = format!("{what}, seq on");
+    stream(&what, &traces, true, (CLEAN, 0, 0));
 }
 
 type Feed = fn(&mut Monitor, &[u8], &[u32]) -> u8;
@@ -186,9 +198,10 @@ fn record_beside_checker(what: &str, traces: &[Trace], seq: bool, burst: usize) 
     for (control, data) in traces {
         let fed = fed(linked::monitor_feed, (control, data), seq, burst);
         let answer = linked::check_stream(control, data, seq);
-        let said = (fed.verdict, fed.rule, fed.cycle, fed.handshakes);
-        let want = (answer.verdict, answer.rule, answer.cycle, answer.handshakes);
-        assert_eq!(said, want);
+        let said = (fed.verdict, fed.rule, fed.cycle);
+        assert_eq!(said, (answer.verdict, answer.rule, answer.cycle));
+        let counts = (fed.handshakes, fed.clears);
+        assert_eq!(counts, (answer.handshakes, answer.clears));
     }
     let (of_record, of_checker) = (Turns::new(traces), Turns::new(traces));
     compare(
@@ -204,8 +217,8 @@ fn record_beside_checker(what: &str, traces: &[Trace], seq: bool, burst: usize) 
 }
 
 /// Offers, and a sink that is ready in two cycles of three.
-fn drawn_offers(random: &Random) -> Offered {
-    let (control, data) = drawn_stream(random, CYCLES, 6, 5, 4);
+fn drawn_offers(random: &Random, clears: Clears) -> Offered {
+    let (control, data) = drawn_stream(random, CYCLES, 6, 5, 4, clears);
     let sink = (0..CYCLES).map(|_| u8::from(!random.once_in(3))).collect();
     Offered {
         control,
@@ -220,8 +233,7 @@ fn proved_run(chain: Chain, offered: &Offered, control: &mut [u8], data: &mut [u
     linked::chain_run(chain, offered, control, data).next
 }
 
-fn chain(what: &str, random: &Random, depths: &[usize], one: Run, other: Run) {
-    let offered = drawn_offers(random);
+fn chain(what: &str, offered: Offered, depths: &[usize], one: Run, other: Run) {
     let new = linked::chain_new(depths).kept;
     let mut out = (vec![0; CYCLES], vec![0; CYCLES]);
     let mut other_out = out.clone();
@@ -240,11 +252,17 @@ fn chain(what: &str, random: &Random, depths: &[usize], one: Run, other: Run) {
     );
 }
 
+/// The proved run beside the same in plain Rust.
+fn chains(what: &str, offered: Offered, depths: &[usize]) {
+    let plain = plain::run::<ByComparison>;
+    chain(what, offered, depths, proved_run, plain);
+}
+
 type Step = fn(Fifo, bool, Payload, bool, bool) -> Stepped<Fifo>;
 
 /// A step for each cycle, each given the FIFO that the one before handed back.
 fn fifo(what: &str, random: &Random, depth: usize, one: Step, other: Step) {
-    let offered = drawn_offers(random);
+    let offered = drawn_offers(random, Clears::Never);
     let new = linked::fifo_new(depth).kept;
     let stepped = |step: Step, fifo: Fifo, c: usize| {
         let payload = Payload {
@@ -287,7 +305,8 @@ fn places(random: &Random) {
     ];
     for ((line, depths), (side, run)) in LINES.map(|line| runs.map(|r| (line, r))).concat() {
         let what = format!("chain, {line}, {side}");
-        chain(&what, random, depths, run, plain::run::<ByRemainder>);
+        let offered = drawn_offers(random, Clears::Never);
+        chain(&what, offered, depths, run, plain::run::<ByRemainder>);
     }
 }
 
@@ -328,15 +347,16 @@ fn main() {
     println!("{:5}   {:<57} {:>8} {:>8}", "ratio", "", "proved", "plain");
     let random = Random::new(1);
     streams(&random);
+    cleared_streams();
     for (line, depths) in LINES {
         let what = format!("chain, {line}");
-        chain(
-            &what,
-            &random,
-            depths,
-            proved_run,
-            plain::run::<ByComparison>,
-        );
+        let offered = drawn_offers(&random, Clears::Never);
+        chains(&what, offered, depths);
+    }
+    for (line, depths) in LINES {
+        let what = format!("chain, {line}, one in sixteen clear");
+        let offered = drawn_offers(&Random::new(16), Clears::Each(16));
+        chains(&what, offered, depths);
     }
     addresses();
     records(record);

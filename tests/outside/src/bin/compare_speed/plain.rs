@@ -4,20 +4,21 @@ use outside::answers::*;
 use outside::models::chain::Offered;
 use outside::models::fifo::NOTHING;
 
-fn answer(verdict: u8, rule: u8, cycle: usize, handshakes: u32) -> StreamAnswer {
+fn answer(verdict: u8, rule: u8, cycle: usize, handshakes: u32, clears: u32) -> StreamAnswer {
     StreamAnswer {
         refusal: 0,
         verdict,
         rule,
         cycle: cycle as u32,
         handshakes,
+        clears,
     }
 }
 
 fn refused(number: u8) -> StreamAnswer {
     StreamAnswer {
         refusal: number,
-        ..answer(NONE, 0, 0, 0)
+        ..answer(NONE, 0, 0, 0, 0)
     }
 }
 
@@ -29,28 +30,35 @@ pub fn check_stream(control: &[u8], data: &[u32], seq: bool) -> StreamAnswer {
     if control.len() > 65_536 {
         return refused(3);
     }
-    if control.iter().any(|c| c & 0b1100 != 0) {
+    if control.iter().any(|c| c & 8 != 0) {
         return refused(2);
     }
     let mut handshakes = 0;
+    let mut clears = 0;
     let mut last: Option<u16> = None;
     let mut stalled: Option<(u8, u32)> = None;
     for (cycle, (&c, &d)) in control.iter().zip(data).enumerate() {
+        if c & 4 != 0 {
+            clears += 1;
+            last = None;
+            stalled = None;
+            continue;
+        }
         let valid = c & 1 != 0;
         let ready = c & 2 != 0;
         if let Some(before) = stalled {
             if !valid {
-                return answer(BROKEN, 4, cycle, handshakes);
+                return answer(BROKEN, 4, cycle, handshakes, clears);
             }
             if before != (c >> 4, d) {
-                return answer(BROKEN, 2, cycle, handshakes);
+                return answer(BROKEN, 2, cycle, handshakes, clears);
             }
         }
         if valid && ready {
             if c & 0x30 == 0x30 {
                 let counter = d as u16;
                 if seq && last.is_some_and(|last| counter != last.wrapping_add(1)) {
-                    return answer(BROKEN, SEQ, cycle, handshakes);
+                    return answer(BROKEN, SEQ, cycle, handshakes, clears);
                 }
                 last = Some(counter);
             }
@@ -58,20 +66,20 @@ pub fn check_stream(control: &[u8], data: &[u32], seq: bool) -> StreamAnswer {
         }
         stalled = (valid && !ready).then_some((c >> 4, d));
     }
-    answer(CLEAN, 0, 0, handshakes)
+    answer(CLEAN, 0, 0, handshakes, clears)
 }
 
 /// Whether bursts could have left a record.
 fn is_legal(m: &Monitor) -> bool {
     let in_place = (m.stalled || m.payload == NOTHING) && (m.counted || m.due == 0);
+    let both = u64::from(m.handshakes) + u64::from(m.clears);
     let clean = m.rule == 0
         && m.cycle == 0
-        && m.handshakes <= m.cycles
-        && !(m.stalled && m.handshakes == m.cycles)
+        && both + u64::from(m.stalled) <= u64::from(m.cycles)
         && !(m.counted && (!m.seq || m.handshakes == 0));
     let by_rule = match m.rule {
-        4 | 2 => m.handshakes < m.cycle,
-        SEQ => m.seq && m.handshakes > 0 && m.handshakes <= m.cycle,
+        4 | 2 => both < u64::from(m.cycle),
+        SEQ => m.seq && m.handshakes > 0 && both <= u64::from(m.cycle),
         _ => false,
     };
     let broken = m.cycle < m.cycles && !m.stalled && !m.counted && by_rule;
@@ -95,7 +103,7 @@ pub fn feed(m: &mut Monitor, control: &[u8], data: &[u32]) -> u8 {
     if !is_legal(m) {
         return 6;
     }
-    if control.iter().any(|c| c & 0b1100 != 0) {
+    if control.iter().any(|c| c & 8 != 0) {
         return 2;
     }
     let start = m.cycles;
@@ -104,10 +112,17 @@ pub fn feed(m: &mut Monitor, control: &[u8], data: &[u32]) -> u8 {
         return 0;
     }
     let mut handshakes = m.handshakes;
+    let mut clears = m.clears;
     let mut due = m.counted.then_some(m.due as u16);
     let mut stalled = m.stalled.then_some((m.payload.strb, m.payload.data));
     let mut breach = None;
     for ((&c, &d), cycle) in control.iter().zip(data).zip(start..) {
+        if c & 4 != 0 {
+            clears += 1;
+            due = None;
+            stalled = None;
+            continue;
+        }
         let valid = c & 1 != 0;
         let ready = c & 2 != 0;
         if let Some(before) = stalled {
@@ -138,6 +153,7 @@ pub fn feed(m: &mut Monitor, control: &[u8], data: &[u32]) -> u8 {
         (stalled, due) = (None, None);
     }
     m.handshakes = handshakes;
+    m.clears = clears;
     m.stalled = stalled.is_some();
     m.payload = stalled.map_or(NOTHING, |(strb, data)| Payload { data, strb });
     m.counted = due.is_some();
@@ -269,6 +285,12 @@ pub fn run<P: Places>(
     } = offered;
     let fifos = &mut chain.fifos[..chain.count];
     for c in 0..control.len() {
+        if control[c] & 4 != 0 {
+            out_control[c] = sink[c] << 1 | 4;
+            out_data[c] = 0;
+            fifos.iter_mut().for_each(|fifo| fifo.count = 0);
+            continue;
+        }
         let shown = oldest(&fifos[fifos.len() - 1]);
         let strb = shown.map_or(0, |p| p.strb);
         out_control[c] = strb << 4 | sink[c] << 1 | u8::from(shown.is_some());
