@@ -12,14 +12,14 @@ use Rattle.signals.specs.declared.Refusal.the-variants.{OutputTooShort}
 use Rattle.signals.specs.declared.Outcome.the-variants.{Accepted, Refused}
 use Rattle.signals.specs.Tables.{_⇐_, firstOf}
 use Rattle.signals.specs.Refusals.{accepts}
-use Rattle.signals.specs.Written.{Judgement}
+use Rattle.stream_checker.specs.Verdicts.{Answer}
 use Rattle.bench_text.specs.declared.Reported.{Reported}
 use Rattle.bench_text.specs.Report.{lines, Delivers}
 use Rattle.bench_text.specs.Writing.{Writes, Puts}
 
 -- the lines of an answer are those of an equal one
-pub lines-as : {out exit : List ℕ} {r : ℕ} (cycles : ℕ) (j k : Judgement) → j ≡ k → Writes out 0 (lines cycles j) r exit → Writes out 0 (lines cycles k) r exit
-lines-as cycles j k e w = rw e at w
+pub lines-as : {out exit : List ℕ} {r : ℕ} (cycles : ℕ) (a b : Answer) → a ≡ b → Writes out 0 (lines cycles a) r exit → Writes out 0 (lines cycles b) r exit
+lines-as cycles a b e w = rw e at w
 
 -- what is written from the start is all of it
 pub writes-length : {out given exit : List ℕ} {r : ℕ} → Writes out 0 given r exit → length (take r exit) ≡ r

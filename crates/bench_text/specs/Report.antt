@@ -1,4 +1,4 @@
--- Document 01, "Bench text": the report of a text, and what `report` promises. Assumes nothing.
+-- Document 01, "Bench text", with request T-09: the report of a text, and what `report` promises. Assumes nothing.
 use Prim.Native.Nat.{ℕ}
 use mathlib.Core.Bool.{cond}
 use mathlib.Core.List.{List, [], _∷_, _++_}
@@ -8,8 +8,8 @@ use lib.Dec.{ltb}
 use Rattle.signals.specs.Tables.{Row, _⇐_, firstOf}
 use Rattle.signals.specs.Refusals.{refusalOf, accepts}
 use Rattle.signals.specs.Judging.{clean, broken}
-use Rattle.signals.specs.Written.{RuleName, number, seq, align, Written, judged, refused, Judgement}
-use Rattle.stream_checker.specs.Verdicts.{checkStream}
+use Rattle.signals.specs.Written.{RuleName, number, seq, align, Written, judged, refused}
+use Rattle.stream_checker.specs.Verdicts.{Answer, checkStream}
 use Rattle.bench_text.specs.declared.Reported.{Reported}
 use Rattle.bench_text.specs.Digits.{bytes, decimal}
 use Rattle.bench_text.specs.Form as form
@@ -23,35 +23,36 @@ ruleBytes align = bytes "align"
 abbrev pub line : (key value : List ℕ) → List ℕ
 line key value = key ++ value ++ bytes "\n"
 
--- the six lines
-abbrev pub sixLines : (kind : List ℕ) (cycles : ℕ) (verdict rule : List ℕ) (at handshakes : ℕ) → List ℕ
-sixLines kind cycles verdict rule at handshakes =
+-- the seven lines
+abbrev pub sevenLines : (kind : List ℕ) (cycles : ℕ) (verdict rule : List ℕ) (at handshakes clears : ℕ) → List ℕ
+sevenLines kind cycles verdict rule at handshakes clears =
     line (bytes "kind=") kind
     ++ line (bytes "cycles=") (decimal cycles)
     ++ line (bytes "verdict=") verdict
     ++ line (bytes "rule=") rule
     ++ line (bytes "at=") (decimal at)
     ++ line (bytes "handshakes=") (decimal handshakes)
+    ++ line (bytes "clears=") (decimal clears)
 
--- of a verdict on so many announced cycles, with the handshake count; a refused text has kind none and no cycles
-abbrev pub verdictLines : (cycles handshakes : ℕ) → Written → List ℕ
-verdictLines cycles handshakes (judged clean) =
-    sixLines (bytes "stream") cycles (bytes "clean") (bytes "0") 0 handshakes
-verdictLines cycles handshakes (judged (broken rule c)) =
-    sixLines (bytes "stream") cycles (bytes "broken") (ruleBytes rule) c handshakes
-verdictLines cycles handshakes (refused n) =
-    sixLines (bytes "none") 0 (bytes "refused") (decimal n) 0 handshakes
+-- of a verdict on so many announced cycles, with the handshakes and the clear cycles; a refused text has kind none and no cycles
+abbrev pub verdictLines : (cycles handshakes clears : ℕ) → Written → List ℕ
+verdictLines cycles handshakes clears (judged clean) =
+    sevenLines (bytes "stream") cycles (bytes "clean") (bytes "0") 0 handshakes clears
+verdictLines cycles handshakes clears (judged (broken rule c)) =
+    sevenLines (bytes "stream") cycles (bytes "broken") (ruleBytes rule) c handshakes clears
+verdictLines cycles handshakes clears (refused n) =
+    sevenLines (bytes "none") 0 (bytes "refused") (decimal n) 0 handshakes clears
 
-abbrev pub lines : (cycles : ℕ) → Judgement → List ℕ
-lines cycles j = verdictLines cycles (j .handshakes) (j .verdict)
+abbrev pub lines : (cycles : ℕ) → Answer → List ℕ
+lines cycles a = verdictLines cycles (a .judgement .handshakes) (a .clears) (a .judgement .verdict)
 
 -- the most bytes that a report has
 abbrev pub maxReport : ℕ
-maxReport = 72
+maxReport = 84
 
 -- the report of what was read: a trace goes to the stream checker
 abbrev pub reportOn : Reading → List ℕ
-reportOn (form.refused n) = verdictLines 0 0 (refused n)
+reportOn (form.refused n) = verdictLines 0 0 0 (refused n)
 reportOn (form.trace t) = lines (length (t .controls)) (checkStream (t .controls) (t .words) (t .seq))
 
 unfoldable pub reportOf : (text : List ℕ) → List ℕ

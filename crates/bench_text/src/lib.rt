@@ -1,6 +1,7 @@
 // From the bytes of a bench text to the bytes of its report.
 //
-// Writes out "Bench text" of document 01. `specs/Form.antt` is the form of a text, `specs/Report.antt` that of a report.
+// Writes out "Bench text" of document 01, with request T-09. `specs/Form.antt` is the form of a text, `specs/Report.antt` that of
+// a report.
 mod parse;
 mod write;
 
@@ -22,7 +23,7 @@ ghost use Rattle.bench_text.specs.Writing.{Writes};
 pub const MAX_TEXT: usize = 53281;
 
 // The most bytes that a report has.
-pub const MAX_REPORT: usize = 72;
+pub const MAX_REPORT: usize = 84;
 
 // The two as values; each is the definitions'.
 pub fn max_text() -> usize
@@ -54,7 +55,7 @@ fn made(text: &[u8], out: &mut [u8; ROOM]) -> usize
             let checked = check_stream(&control[..cycles], &words[..cycles], seq);
             checked_lines(out, cycles, checked)
         }
-        Parsed::Refused(why) => refused_lines(out, why, 0),
+        Parsed::Refused(why) => refused_lines(out, why, 0, 0),
     }
 }
 

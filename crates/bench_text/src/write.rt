@@ -15,11 +15,11 @@ ghost use Rattle.signals.specs.Written.{refused};
 ghost use Rattle.stream_checker.specs.Written.{written};
 ghost use Rattle.bench_text.specs.Digits.{digitByte, fixed, decimal};
 ghost use Rattle.bench_text.specs.Report as spec;
-ghost use Rattle.bench_text.specs.Report.{sixLines, verdictLines, lines, Delivers};
+ghost use Rattle.bench_text.specs.Report.{sevenLines, verdictLines, lines, Delivers};
 ghost use Rattle.bench_text.specs.Writing.{Writes, Puts, FirstDigit};
 
-// Room for six lines whose numbers have five digits each.
-pub const ROOM: usize = 78;
+// Room for seven lines whose numbers have five digits each.
+pub const ROOM: usize = 91;
 
 // Given bytes, from a place on; answers the place after them.
 fn put(out: &mut [u8], at: usize, given: &[u8]) -> usize
@@ -95,8 +95,8 @@ fn number_line(out: &mut [u8], at: usize, key: &[u8], n: usize) -> usize
     line(out, at, key, &digits[first..])
 }
 
-// The six lines of a report.
-fn six_lines(
+// The seven lines of a report.
+fn seven_lines(
     out: &mut [u8; ROOM],
     kind: &[u8],
     cycles: usize,
@@ -104,25 +104,28 @@ fn six_lines(
     rule: &[u8],
     at: u32,
     handshakes: u32,
+    clears: u32,
 ) -> usize
     requires { ⌜ (length (now kind) ≤ 6) × (length (now verdict) ≤ 7) × (length (now rule) ≤ 5) ⌝ }
-    ensures { λ r. ⌜ Writes (now (out .entry)) 0 (sixLines (now (kind .entry)) cycles (now (verdict .entry)) (now (rule .entry)) at handshakes) r (now (out .exit)) ⌝ }
+    ensures { λ r. ⌜ Writes (now (out .entry)) 0 (sevenLines (now (kind .entry)) cycles (now (verdict .entry)) (now (rule .entry)) at handshakes clears) r (now (out .exit)) ⌝ }
 {
     let second = line(out, 0, b"kind=", kind);
     let third = number_line(out, second, b"cycles=", cycles);
     let fourth = line(out, third, b"verdict=", verdict);
     let fifth = line(out, fourth, b"rule=", rule);
     let sixth = number_line(out, fifth, b"at=", at as usize);
-    number_line(out, sixth, b"handshakes=", handshakes as usize)
+    let seventh = number_line(out, sixth, b"handshakes=", handshakes as usize);
+    number_line(out, seventh, b"clears=", clears as usize)
 }
 
-// The report of a refusal, and of a count beside it.
-pub fn refused_lines(out: &mut [u8; ROOM], why: Refusal, handshakes: u32) -> usize
-    ensures { λ r. ⌜ Writes (now (out .entry)) 0 (verdictLines 0 handshakes (refused (numberOf why))) r (now (out .exit)) ⌝ }
+// The report of a refusal, and of the two counts beside it.
+pub fn refused_lines(out: &mut [u8; ROOM], why: Refusal, handshakes: u32, clears: u32) -> usize
+    ensures { λ r. ⌜ Writes (now (out .entry)) 0 (verdictLines 0 handshakes clears (refused (numberOf why))) r (now (out .exit)) ⌝ }
 {
     let digits = five_digits(why.number() as usize);
     let first = first_digit(&digits);
-    six_lines(out, b"none", 0, b"refused", &digits[first..], 0, handshakes)
+    let rule = &digits[first..];
+    seven_lines(out, b"none", 0, b"refused", rule, 0, handshakes, clears)
 }
 
 // The report of a verdict on a trace of so many cycles.
@@ -130,15 +133,17 @@ pub fn checked_lines(out: &mut [u8; ROOM], cycles: usize, checked: Checked) -> u
     ensures { λ r. ⌜ Writes (now (out .entry)) 0 (lines cycles (written checked)) r (now (out .exit)) ⌝ }
 {
     let handshakes = checked.handshakes;
+    let clears = checked.clears;
+    let kind = b"stream";
     let verdict = checked.verdict;
     match verdict {
-        Verdict::Clean => six_lines(out, b"stream", cycles, b"clean", b"0", 0, handshakes),
+        Verdict::Clean => seven_lines(out, kind, cycles, b"clean", b"0", 0, handshakes, clears),
         Verdict::Broken(rule, at) => match rule {
-            Rule::Held => six_lines(out, b"stream", cycles, b"broken", b"4", at, handshakes),
-            Rule::Stable => six_lines(out, b"stream", cycles, b"broken", b"2", at, handshakes),
-            Rule::Seq => six_lines(out, b"stream", cycles, b"broken", b"seq", at, handshakes),
+            Rule::Held => seven_lines(out, kind, cycles, b"broken", b"4", at, handshakes, clears),
+            Rule::Stable => seven_lines(out, kind, cycles, b"broken", b"2", at, handshakes, clears),
+            Rule::Seq => seven_lines(out, kind, cycles, b"broken", b"seq", at, handshakes, clears),
         },
-        Verdict::Refused(why) => refused_lines(out, why, handshakes),
+        Verdict::Refused(why) => refused_lines(out, why, handshakes, clears),
     }
 }
 

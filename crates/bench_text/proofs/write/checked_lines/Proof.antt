@@ -7,17 +7,14 @@ use Rattle.bench_text.proofs.write.checked_lines.Tie as tie
 enum-told : tie.Need-enum-told
 enum-told c = search needs
 
-slice-aggregate-six-lines : tie.Need-slice-aggregate-six-lines
-slice-aggregate-six-lines c = search needs
+slice-aggregate-seven-lines : tie.Need-slice-aggregate-seven-lines
+slice-aggregate-seven-lines c = search needs
 
-slice-aggregate-six-lines-2 : tie.Need-slice-aggregate-six-lines-2
-slice-aggregate-six-lines-2 c = search needs
+slice-aggregate-seven-lines-2 : tie.Need-slice-aggregate-seven-lines-2
+slice-aggregate-seven-lines-2 c = search needs
 
-slice-aggregate-six-lines-3 : tie.Need-slice-aggregate-six-lines-3
-slice-aggregate-six-lines-3 c = search needs
-
-six-lines-requires : tie.Need-six-lines-requires
-six-lines-requires c κs = search needs
+seven-lines-requires : tie.Need-seven-lines-requires
+seven-lines-requires c κs = search needs
 
 enum-known-verdict : tie.Need-enum-known-verdict
 enum-known-verdict c = search needs
@@ -25,47 +22,38 @@ enum-known-verdict c = search needs
 enum-told-2 : tie.Need-enum-told-2
 enum-told-2 c = search needs
 
-slice-aggregate-six-lines-4 : tie.Need-slice-aggregate-six-lines-4
-slice-aggregate-six-lines-4 c = search needs
+slice-aggregate-seven-lines-3 : tie.Need-slice-aggregate-seven-lines-3
+slice-aggregate-seven-lines-3 c = search needs
 
-slice-aggregate-six-lines-5 : tie.Need-slice-aggregate-six-lines-5
-slice-aggregate-six-lines-5 c = search needs
+slice-aggregate-seven-lines-4 : tie.Need-slice-aggregate-seven-lines-4
+slice-aggregate-seven-lines-4 c = search needs
 
-slice-aggregate-six-lines-6 : tie.Need-slice-aggregate-six-lines-6
-slice-aggregate-six-lines-6 c = search needs
-
-six-lines-requires-2 : tie.Need-six-lines-requires-2
-six-lines-requires-2 c κs = search needs
+seven-lines-requires-2 : tie.Need-seven-lines-requires-2
+seven-lines-requires-2 c κs = search needs
 
 enum-told-3 : tie.Need-enum-told-3
 enum-told-3 c = search needs
 
-slice-aggregate-six-lines-7 : tie.Need-slice-aggregate-six-lines-7
-slice-aggregate-six-lines-7 c = search needs
+slice-aggregate-seven-lines-5 : tie.Need-slice-aggregate-seven-lines-5
+slice-aggregate-seven-lines-5 c = search needs
 
-slice-aggregate-six-lines-8 : tie.Need-slice-aggregate-six-lines-8
-slice-aggregate-six-lines-8 c = search needs
+slice-aggregate-seven-lines-6 : tie.Need-slice-aggregate-seven-lines-6
+slice-aggregate-seven-lines-6 c = search needs
 
-slice-aggregate-six-lines-9 : tie.Need-slice-aggregate-six-lines-9
-slice-aggregate-six-lines-9 c = search needs
-
-six-lines-requires-3 : tie.Need-six-lines-requires-3
-six-lines-requires-3 c κs = search needs
+seven-lines-requires-3 : tie.Need-seven-lines-requires-3
+seven-lines-requires-3 c κs = search needs
 
 enum-told-4 : tie.Need-enum-told-4
 enum-told-4 c = search needs
 
-slice-aggregate-six-lines-10 : tie.Need-slice-aggregate-six-lines-10
-slice-aggregate-six-lines-10 c = search needs
+slice-aggregate-seven-lines-7 : tie.Need-slice-aggregate-seven-lines-7
+slice-aggregate-seven-lines-7 c = search needs
 
-slice-aggregate-six-lines-11 : tie.Need-slice-aggregate-six-lines-11
-slice-aggregate-six-lines-11 c = search needs
+slice-aggregate-seven-lines-8 : tie.Need-slice-aggregate-seven-lines-8
+slice-aggregate-seven-lines-8 c = search needs
 
-slice-aggregate-six-lines-12 : tie.Need-slice-aggregate-six-lines-12
-slice-aggregate-six-lines-12 c = search needs
-
-six-lines-requires-4 : tie.Need-six-lines-requires-4
-six-lines-requires-4 c κs = search needs
+seven-lines-requires-4 : tie.Need-seven-lines-requires-4
+seven-lines-requires-4 c κs = search needs
 
 enum-known-verdict-2 : tie.Need-enum-known-verdict-2
 enum-known-verdict-2 c = search needs
@@ -75,19 +63,19 @@ refused-lines-requires c κs = search needs
 
 returns : tie.Need-returns
 unfolding decimal
-returns c = rw (c .before .before .before .before .before .enum-told .given .1) (c .six-lines .ensures)
+returns c = rw (c .before .before .before .before .before .enum-told .given .1) (c .seven-lines .ensures)
 
 returns-2 : tie.Need-returns-2
 unfolding decimal
-returns-2 c = rw (c .before .before .before .before .before .before .before .before .verdict .given .1, c .before .before .before .before .before .enum-told2 .given .1) (c .six-lines2 .ensures)
+returns-2 c = rw (c .before .before .before .before .before .before .before .before .verdict .given .1, c .before .before .before .before .before .enum-told2 .given .1) (c .seven-lines2 .ensures)
 
 returns-3 : tie.Need-returns-3
 unfolding decimal
-returns-3 c = rw (c .before .before .before .before .before .before .before .before .verdict .given .1, c .before .before .before .before .before .enum-told3 .given .1) (c .six-lines3 .ensures)
+returns-3 c = rw (c .before .before .before .before .before .before .before .before .verdict .given .1, c .before .before .before .before .before .enum-told3 .given .1) (c .seven-lines3 .ensures)
 
 returns-4 : tie.Need-returns-4
 unfolding decimal
-returns-4 c = rw (c .before .before .before .before .before .before .before .before .verdict .given .1, c .before .before .before .before .before .enum-told4 .given .1) (c .six-lines4 .ensures)
+returns-4 c = rw (c .before .before .before .before .before .before .before .before .verdict .given .1, c .before .before .before .before .before .enum-told4 .given .1) (c .seven-lines4 .ensures)
 
 returns-5 : tie.Need-returns-5
 returns-5 c = rw (c .before .before .before .verdict2 .given .1) (c .refused-lines .ensures)
@@ -97,26 +85,22 @@ checked-lines-spec =
     tie.close
     (tie.spec
     enum-told
-    slice-aggregate-six-lines
-    slice-aggregate-six-lines-2
-    slice-aggregate-six-lines-3
-    six-lines-requires
+    slice-aggregate-seven-lines
+    slice-aggregate-seven-lines-2
+    seven-lines-requires
     enum-known-verdict
     enum-told-2
-    slice-aggregate-six-lines-4
-    slice-aggregate-six-lines-5
-    slice-aggregate-six-lines-6
-    six-lines-requires-2
+    slice-aggregate-seven-lines-3
+    slice-aggregate-seven-lines-4
+    seven-lines-requires-2
     enum-told-3
-    slice-aggregate-six-lines-7
-    slice-aggregate-six-lines-8
-    slice-aggregate-six-lines-9
-    six-lines-requires-3
+    slice-aggregate-seven-lines-5
+    slice-aggregate-seven-lines-6
+    seven-lines-requires-3
     enum-told-4
-    slice-aggregate-six-lines-10
-    slice-aggregate-six-lines-11
-    slice-aggregate-six-lines-12
-    six-lines-requires-4
+    slice-aggregate-seven-lines-7
+    slice-aggregate-seven-lines-8
+    seven-lines-requires-4
     enum-known-verdict-2
     refused-lines-requires
     returns

@@ -22,30 +22,30 @@ slice-aggregate-first-digit c = search needs
 first-digit-requires : tie.Need-first-digit-requires
 first-digit-requires c κs = search needs
 
-slice-aggregate-six-lines : tie.Need-slice-aggregate-six-lines
-slice-aggregate-six-lines c = search needs
+sub-rule : tie.Need-sub-rule
+sub-rule c = search needs
 
-slice-aggregate-six-lines-2 : tie.Need-slice-aggregate-six-lines-2
-slice-aggregate-six-lines-2 c = search needs
+part-rule-start : tie.Need-part-rule-start
+part-rule-start c = search needs
 
-sub-six-lines : tie.Need-sub-six-lines
-sub-six-lines c = search needs
+part-rule-end : tie.Need-part-rule-end
+part-rule-end c = search needs
 
-part-six-lines-start : tie.Need-part-six-lines-start
-part-six-lines-start c = search needs
+slice-aggregate-seven-lines : tie.Need-slice-aggregate-seven-lines
+slice-aggregate-seven-lines c = search needs
 
-part-six-lines-end : tie.Need-part-six-lines-end
-part-six-lines-end c = search needs
+slice-aggregate-seven-lines-2 : tie.Need-slice-aggregate-seven-lines-2
+slice-aggregate-seven-lines-2 c = search needs
 
-six-lines-requires : tie.Need-six-lines-requires
-six-lines-requires c κs = search needs
+seven-lines-requires : tie.Need-seven-lines-requires
+seven-lines-requires c κs = search needs
 
 returns : tie.Need-returns
 returns c =
     let digits = c .before .before .before .before .before .before .before .before .five-digits in
     let first = c .before .before .before .before .before .before .first-digit in
     rw (digits-left (digits .result) (first .result) (numberOf (c .before .before .before .before .before .before .before .before .before .before .args .why)) (digits .ensures ∙ ap (fixed 10 5) (c .before .before .before .before .before .before .before .before .before .number .ensures)) (first .ensures .rest))
-    at (c .six-lines .ensures)
+    at (c .seven-lines .ensures)
 
 pub refused-lines-spec : {M : Type 1} → statement M
 refused-lines-spec =
@@ -56,10 +56,10 @@ refused-lines-spec =
     five-digits-requires
     slice-aggregate-first-digit
     first-digit-requires
-    slice-aggregate-six-lines
-    slice-aggregate-six-lines-2
-    sub-six-lines
-    part-six-lines-start
-    part-six-lines-end
-    six-lines-requires
+    sub-rule
+    part-rule-start
+    part-rule-end
+    slice-aggregate-seven-lines
+    slice-aggregate-seven-lines-2
+    seven-lines-requires
     returns)

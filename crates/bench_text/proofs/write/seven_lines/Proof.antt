@@ -1,10 +1,10 @@
--- `bench_text::write::six_lines` meets its contract: six lines one after the other, which together have room. Assumes nothing.
+-- `bench_text::write::seven_lines` meets its contract: seven lines one after the other, which together have room. Assumes nothing.
 use borrow.Author.Needs.{needs}
 use native.Mathlib.Omega.{arith}
 use lib.ListN.{length-append}
 use Rattle.bench_text.proofs.Writing.{writes-join, decimal-short}
-use Rattle.bench_text.proofs.write.six_lines.Statement.{statement}
-use Rattle.bench_text.proofs.write.six_lines.Tie as tie
+use Rattle.bench_text.proofs.write.seven_lines.Statement.{statement}
+use Rattle.bench_text.proofs.write.seven_lines.Tie as tie
 
 slice-aggregate-line : tie.Need-slice-aggregate-line
 slice-aggregate-line c = search needs
@@ -87,16 +87,38 @@ number-line-requires-3 c κs =
       decimal-short (start .args .at),
     )
 
+slice-aggregate-number-line-4 : tie.Need-slice-aggregate-number-line-4
+slice-aggregate-number-line-4 c = search needs
+
+number-line-requires-4 : tie.Need-number-line-requires-4
+number-line-requires-4 c κs =
+    let start = c .before .before .before .before .before .before .before .before .before .before .before .before .before .before .before .before .before .before .before .before .before .before .before in
+    omega (
+      arith,
+      start .pre,
+      simp length-append at (c .before .before .before .before .before .before .before .before .before .before .before .before .before .before .before .before .before .line .ensures .next),
+      simp length-append at (c .before .before .before .before .before .before .before .before .before .before .before .before .before .before .number-line .ensures .next),
+      simp length-append at (c .before .before .before .before .before .before .before .before .before .before .before .line2 .ensures .next),
+      simp length-append at (c .before .before .before .before .before .before .before .before .line3 .ensures .next),
+      simp length-append at (c .before .before .before .before .before .number-line2 .ensures .next),
+      simp length-append at (c .before .before .number-line3 .ensures .next),
+      decimal-short (start .args .cycles),
+      decimal-short (start .args .at),
+      decimal-short (start .args .handshakes),
+    )
+
 returns : tie.Need-returns
 returns c =
     writes-join
     (writes-join
-    (writes-join (writes-join (writes-join (c .before .before .before .before .before .before .before .before .before .before .before .before .before .before .before .line .ensures) (c .before .before .before .before .before .before .before .before .before .before .before .before .number-line .ensures)) (c .before .before .before .before .before .before .before .before .before .line2 .ensures)) (c .before .before .before .before .before .before .line3 .ensures))
-    (c .before .before .before .number-line2 .ensures))
-    (c .number-line3 .ensures)
+    (writes-join
+    (writes-join (writes-join (writes-join (c .before .before .before .before .before .before .before .before .before .before .before .before .before .before .before .before .before .before .line .ensures) (c .before .before .before .before .before .before .before .before .before .before .before .before .before .before .before .number-line .ensures)) (c .before .before .before .before .before .before .before .before .before .before .before .before .line2 .ensures)) (c .before .before .before .before .before .before .before .before .before .line3 .ensures))
+    (c .before .before .before .before .before .before .number-line2 .ensures))
+    (c .before .before .before .number-line3 .ensures))
+    (c .number-line4 .ensures)
 
-pub six-lines-spec : {M : Type 1} → statement M
-six-lines-spec =
+pub seven-lines-spec : {M : Type 1} → statement M
+seven-lines-spec =
     tie.close
     (tie.spec
     slice-aggregate-line
@@ -111,4 +133,6 @@ six-lines-spec =
     number-line-requires-2
     slice-aggregate-number-line-3
     number-line-requires-3
+    slice-aggregate-number-line-4
+    number-line-requires-4
     returns)
