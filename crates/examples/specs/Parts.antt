@@ -1,4 +1,4 @@
--- Request T-05: a monitor's record by its parts, for the examples. Assumes nothing.
+-- Requests T-05 and T-09: a monitor's record by its parts, for the examples. Assumes nothing.
 use Prim.Native.Nat.{ℕ}
 use mathlib.Core.Bool.{Bool, true, false}
 use Rattle.monitor.specs.declared.Monitor.{Monitor}
@@ -8,6 +8,7 @@ pub record Seen : Type 0 where
   pub seqOn : Bool
   pub cycles : ℕ
   pub handshakes : ℕ
+  pub clears : ℕ
 
 pub record Breach : Type 0 where
   pub verdict : ℕ
@@ -23,8 +24,8 @@ pub record Due : Type 0 where
   pub counted : Bool
   pub due : ℕ
 
-abbrev pub seen : Bool → (cycles handshakes : ℕ) → Seen
-seen seqOn cycles handshakes = record { seqOn = seqOn; cycles = cycles; handshakes = handshakes }
+abbrev pub seen : Bool → (cycles handshakes clears : ℕ) → Seen
+seen seqOn cycles handshakes clears = record { seqOn = seqOn; cycles = cycles; handshakes = handshakes; clears = clears }
 
 abbrev pub verdict : (verdict rule cycle : ℕ) → Breach
 verdict v rule cycle = record { verdict = v; rule = rule; cycle = cycle }
@@ -56,6 +57,7 @@ with s b l d =
       rule = b .rule;
       cycle = b .cycle;
       handshakes = s .handshakes;
+      clears = s .clears;
       stalled = l .stalled;
       payload = record { «data» = l .word; strb = l .strb };
       counted = d .counted;

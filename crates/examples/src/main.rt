@@ -1,7 +1,8 @@
-// Runs the Run examples of document 01, "Bench examples": the depths of a FIFO and the length of a trace that are accepted; and, for
-// request T-05, bursts longer than a trace.
+// Runs the Run examples of document 01, "Bench examples": the depths of a FIFO and the length of a trace that are accepted; for
+// request T-05, bursts longer than a trace; and, for request T-09, a chain's run with a clear in its midst.
 //
-// P1 to P12 are shown in `specs/Bench.antt`, and cut into bursts in `specs/Bursts.antt`.
+// P1 to P12 and C1 to C6 are shown in `specs/Bench.antt`, and streams cut into bursts in `specs/Bursts.antt`.
+use chain::Chain;
 use fifo::Fifo;
 use libc::STDOUT_FILENO;
 use monitor::MAX_SEEN;
@@ -12,6 +13,9 @@ use signals::Refusal;
 
 // One cycle more than a trace may hold.
 const TOO_MANY: usize = MAX_CYCLES + 1;
+
+// The cycles of the run with a clear.
+const WITH_CLEAR: usize = 7;
 
 fn print_case(name: &[u8], number: usize) {
     io::write_all(STDOUT_FILENO, name);
@@ -72,6 +76,39 @@ fn run_burst(seen: u32, control: &[u8], data: &[u32]) {
     }
 }
 
+// A cycle of a trace, as a line of a bench text has it.
+fn print_cycle(control: u8, data: u32) {
+    io::write_all(STDOUT_FILENO, b"c=");
+    io::print_hex(STDOUT_FILENO, control as u64, 2);
+    io::print_hex(STDOUT_FILENO, data as u64, 8);
+    io::write_all(STDOUT_FILENO, b"\n");
+}
+
+// A run of two FIFOs: two payloads, a clear with a third while the outlet stalls, and a fourth. Prints the outlet's trace.
+fn run_clear() {
+    let control: [u8; WITH_CLEAR] = [0xf1, 0xf1, 0x00, 0xf5, 0xf1, 0x00, 0x00];
+    let data: [u32; WITH_CLEAR] = [0x11, 0x12, 0x00, 0x13, 0x14, 0x00, 0x00];
+    let sink: [u8; WITH_CLEAR] = [1, 0, 0, 0, 1, 1, 1];
+    let mut out_control = [0u8; WITH_CLEAR];
+    let mut out_data = [0u32; WITH_CLEAR];
+    let chain = Chain::new(&[2, 2]).chain;
+    print_case(b"chain cycles ", WITH_CLEAR);
+    let outcome = chain
+        .run(&control, &data, &sink, &mut out_control, &mut out_data)
+        .outcome;
+    match outcome {
+        Outcome::Accepted => print_accepted(),
+        Outcome::Refused(why) => print_refused(why),
+    }
+    print_cycle(out_control[0], out_data[0]);
+    print_cycle(out_control[1], out_data[1]);
+    print_cycle(out_control[2], out_data[2]);
+    print_cycle(out_control[3], out_data[3]);
+    print_cycle(out_control[4], out_data[4]);
+    print_cycle(out_control[5], out_data[5]);
+    print_cycle(out_control[6], out_data[6]);
+}
+
 fn main() {
     run_depth(2);
     run_depth(16);
@@ -88,4 +125,5 @@ fn main() {
     run_burst(MAX_SEEN - TOO_MANY as u32, &control, &words);
     run_burst(MAX_SEEN - MAX_CYCLES as u32, &control, &words);
     run_burst(MAX_SEEN, &control[..0], &words[..0]);
+    run_clear();
 }

@@ -1,22 +1,23 @@
 -- The answers of the checkers in numbers. Assumes nothing.
-use Rattle.signals.specs.Written.{Judgement}
-use Rattle.mem_checker.specs.Verdicts.{Answer}
+use Rattle.stream_checker.specs.Verdicts as ofStream
+use Rattle.mem_checker.specs.Verdicts as ofMem
 use Rattle.exports.specs.declared.checkers.StreamVerdict.{StreamVerdict}
 use Rattle.exports.specs.declared.checkers.MemVerdict.{MemVerdict}
 use Rattle.exports.specs.Numbers.{InFour, inFour}
 
-abbrev pub streamNumbers : Judgement → StreamVerdict
-streamNumbers j =
-    let v : InFour = inFour (j .verdict) in
+abbrev pub streamNumbers : ofStream.Answer → StreamVerdict
+streamNumbers a =
+    let v : InFour = inFour (a .judgement .verdict) in
     record {
       refusal = v .refusal;
       verdict = v .verdict;
       rule = v .rule;
       cycle = v .cycle;
-      handshakes = j .handshakes;
+      handshakes = a .judgement .handshakes;
+      clears = a .clears;
     }
 
-abbrev pub memNumbers : Answer → MemVerdict
+abbrev pub memNumbers : ofMem.Answer → MemVerdict
 memNumbers a =
     let v : InFour = inFour (a .judgement .verdict) in
     record {

@@ -13,7 +13,7 @@ use signals::BROKEN;
 use signals::CLEAN;
 use signals::NONE;
 
-// A verdict on a stream's trace. Rule and cycle are 0 unless it is broken.
+// A verdict on a stream's trace, with the handshakes and the clears. Rule and cycle are 0 unless it is broken.
 #[repr(C)]
 pub struct StreamVerdict {
     pub refusal: u8,
@@ -21,6 +21,7 @@ pub struct StreamVerdict {
     pub rule: u8,
     pub cycle: u32,
     pub handshakes: u32,
+    pub clears: u32,
 }
 
 // A verdict on a memory trace, and whether a read is still open.
@@ -47,6 +48,8 @@ fn mem_rule(rule: mem_checker::Rule) -> u8
 fn stream_numbers(checked: stream_checker::Checked) -> StreamVerdict
     ensures { λ r. ⌜ r ≡ streamNumbers (writtenStream.written checked) ⌝ }
 {
+    let handshakes = checked.handshakes;
+    let clears = checked.clears;
     let verdict = checked.verdict;
     match verdict {
         stream_checker::Verdict::Clean => StreamVerdict {
@@ -54,21 +57,24 @@ fn stream_numbers(checked: stream_checker::Checked) -> StreamVerdict
             verdict: CLEAN,
             rule: 0,
             cycle: 0,
-            handshakes: checked.handshakes,
+            handshakes,
+            clears,
         },
         stream_checker::Verdict::Broken(rule, cycle) => StreamVerdict {
             refusal: 0,
             verdict: BROKEN,
             rule: rule.number(),
             cycle,
-            handshakes: checked.handshakes,
+            handshakes,
+            clears,
         },
         stream_checker::Verdict::Refused(why) => StreamVerdict {
             refusal: why.number(),
             verdict: NONE,
             rule: 0,
             cycle: 0,
-            handshakes: checked.handshakes,
+            handshakes,
+            clears,
         },
     }
 }

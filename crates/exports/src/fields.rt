@@ -1,15 +1,17 @@
 // The fields of the two control bytes.
 ghost use mathlib.Core.Path.{_≡_};
 ghost use Rattle.signals.specs.Refusals.{anyOf};
-ghost use Rattle.signals.specs.Stream.{reservedBits};
+ghost use Rattle.signals.specs.Stream.{reservedBit};
 ghost use Rattle.exports.specs.Fields.{streamFields, memFields};
 use signals::memory;
 use signals::stream;
 
+// `reserved` is bit 3 alone.
 #[repr(C)]
 pub struct StreamFields {
     pub valid: bool,
     pub ready: bool,
+    pub clear: bool,
     pub reserved: bool,
     pub strb: u8,
 }
@@ -29,6 +31,7 @@ pub extern "C" fn floealder_stream_fields(control: u8) -> StreamFields
     StreamFields {
         valid: stream::valid(control),
         ready: stream::ready(control),
+        clear: stream::clear(control),
         reserved: stream::reserved(control),
         strb: stream::strb(control),
     }
@@ -36,7 +39,7 @@ pub extern "C" fn floealder_stream_fields(control: u8) -> StreamFields
 
 #[no_mangle]
 pub extern "C" fn floealder_any_reserved(controls: &[u8]) -> bool
-    ensures { λ r. ⌜ r ≡ anyOf reservedBits (now (controls .entry)) ⌝ }
+    ensures { λ r. ⌜ r ≡ anyOf reservedBit (now (controls .entry)) ⌝ }
 {
     stream::any_reserved(controls)
 }

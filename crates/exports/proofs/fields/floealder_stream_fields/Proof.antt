@@ -9,6 +9,9 @@ valid-requires c κs = search needs
 ready-requires : tie.Need-ready-requires
 ready-requires c κs = search needs
 
+clear-requires : tie.Need-clear-requires
+clear-requires c κs = search needs
+
 reserved-requires : tie.Need-reserved-requires
 reserved-requires c κs = search needs
 
@@ -16,8 +19,8 @@ strb-requires : tie.Need-strb-requires
 strb-requires c κs = search needs
 
 returns : tie.Need-returns
-returns c = rw (c .before .before .before .valid .ensures, c .before .before .ready .ensures, c .before .reserved .ensures, c .strb .ensures)
+returns c = rw (c .before .before .before .before .valid .ensures, c .before .before .before .ready .ensures, c .before .before .clear .ensures, c .before .reserved .ensures, c .strb .ensures)
 
 pub floealder-stream-fields-spec : {M : Type 1} → statement M
 floealder-stream-fields-spec =
-    tie.close (tie.spec valid-requires ready-requires reserved-requires strb-requires returns)
+    tie.close (tie.spec valid-requires ready-requires clear-requires reserved-requires strb-requires returns)
