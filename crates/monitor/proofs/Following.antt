@@ -3,22 +3,24 @@
 use Prim.Native.Nat.{ℕ, zero, suc, _+_, _*_}
 use native.Mathlib.Nat.{add-zero}
 use native.Mathlib.Omega.{arith}
-use mathlib.Core.Bool.{Bool, true, false, cond, not, _&&_}
+use mathlib.Core.Bool.{Bool, true, false, cond, not, _&&_, _||_}
 use mathlib.Core.List.{List}
 use mathlib.Core.Option.{Option, none, some}
 use mathlib.Core.Path.{_≡_, refl, sym, _∙_, ap}
+use lib.Dec.{eqb}
+use lib.ListN.{getD}
 use Rattle.signals.specs.Judging.{Finding, clean, broken, found, countBelow, findingBelow}
 use Rattle.signals.specs.Payloads.{zeros, samePayload}
-use Rattle.signals.specs.Stream.{Sample, sample, sampleAt}
+use Rattle.signals.specs.Stream.{Sample, sample, sampleAt, clearCycle, handshake}
 use Rattle.signals.specs.Tables.{Row, firstOf}
 use Rattle.signals.specs.Written.{RuleName}
 use Rattle.signals.specs.declared.Payload.{Payload}
-use Rattle.stream_checker.specs.Rules.{stalled, breaksHeld, breaksStable, inOrder, unlessClear}
-use Rattle.stream_checker.specs.Step.{before, breaksSeqAfter, rulesAfter, watchAfter, rulesFrom}
+use Rattle.stream_checker.specs.Rules.{stalled, breaksHeld, breaksStable, counter, afterCounter, carriesCounter, inOrder, unlessClear}
+use Rattle.stream_checker.specs.Step.{before, rulesAfter, next, watchAfter, rulesFrom}
 use Rattle.stream_checker.specs.Verdicts.{handshakeAt, clearAt}
 use Rattle.stream_checker.specs.declared.watch.Watch.{Watch}
 use Rattle.monitor.specs.declared.Monitor.{Monitor}
-use Rattle.monitor.specs.Cycle.{lastSeen, rulesNext, judgedNext, oneMore, afterCycles}
+use Rattle.monitor.specs.Cycle.{lastSeen, notDue, rulesNext, passed, judgedNext, oneMore, afterCycles}
 use Rattle.monitor.specs.Step.{watchOf, kept, stillBroken, brokenIn}
 use Rattle.monitor.proofs.Legal.{Clean, Broken}
 use Rattle.monitor.proofs.Stall.{stall-sample}
@@ -33,6 +35,24 @@ stable-alike :
 stable-alike true valid p q = refl
 stable-alike false valid p q = refl
 
+-- and the counter due only where one is kept
+due-alike : (counted : Bool) (n due : ℕ) → counted && not (eqb n (cond counted due 0)) ≡ counted && not (eqb n due)
+due-alike true n due = refl
+due-alike false n due = refl
+
+-- a counter is kept after a cycle, and due, in a record as in a watch
+counted-alike : (clear carries counted : Bool) → cond clear false (cond carries true counted) ≡ not clear && (carries || counted)
+counted-alike true carries counted = refl
+counted-alike false true counted = refl
+counted-alike false false counted = refl
+
+due-next-alike :
+    (clear carries counted : Bool) (next due : ℕ) →
+    cond clear 0 (cond carries next (cond counted due 0)) ≡ cond (not clear && (carries || counted)) (cond carries next due) 0
+due-next-alike true carries counted next due = refl
+due-next-alike false true counted next due = refl
+due-next-alike false false counted next due = refl
+
 -- one step of a watch, as its record takes it
 module _ (seqOn : Bool) (cycles handshakes clears : ℕ) (w : Watch) where
   rules-alike : (now : Sample) → rulesNext (kept seqOn cycles handshakes clears w) now ≡ rulesAfter w now seqOn
@@ -41,8 +61,32 @@ module _ (seqOn : Bool) (cycles handshakes clears : ℕ) (w : Watch) where
       let m = kept seqOn cycles handshakes clears w in
       let stable = stable-alike s (now .valid) (before w .payload) (now .payload) in
       ap (unlessClear now)
-      (ap (λ (b : Bool). inOrder seqOn b (breaksStable (lastSeen m) now) (breaksSeqAfter w now)) (held-alike s (now .valid))
-      ∙ ap (λ (b : Bool). inOrder seqOn (breaksHeld (before w) now) b (breaksSeqAfter w now)) stable)
+      (ap (λ (b : Bool). inOrder seqOn b (breaksStable (lastSeen m) now) (carriesCounter now && notDue m (counter now))) (held-alike s (now .valid))
+      ∙ ap (λ (b : Bool). inOrder seqOn (breaksHeld (before w) now) b (carriesCounter now && notDue m (counter now))) stable
+      ∙ ap (λ (b : Bool). inOrder seqOn (breaksHeld (before w) now) (breaksStable (before w) now) (carriesCounter now && b))
+      (due-alike (w .counted) (counter now) (w .due)))
+
+  passed-alike :
+      (control word : ℕ) →
+      let now = sample control word in
+      passed (kept seqOn cycles handshakes clears w) now
+      ≡ kept seqOn (cycles + 1) (handshakes + cond (handshake now) 1 0) (clears + cond (clearCycle now) 1 0) (next seqOn w control word)
+  passed-alike control word =
+      let now = sample control word in
+      let carries = seqOn && carriesCounter now in
+      λ i. record {
+        seq = seqOn;
+        cycles = cycles + 1;
+        verdict = 1;
+        rule = 0;
+        cycle = 0;
+        handshakes = handshakes + cond (handshake now) 1 0;
+        clears = clears + cond (clearCycle now) 1 0;
+        stalled = stalled now;
+        payload = cond (stalled now) (now .payload) zeros;
+        counted = counted-alike (clearCycle now) carries (w .counted) i;
+        due = due-next-alike (clearCycle now) carries (w .counted) (afterCounter (counter now)) (w .due) i;
+      }
 
 -- the last cycle, taken from a record and put back
 module _ (p : Payload) where
@@ -56,6 +100,11 @@ module _ (p : Payload) where
   payload-back : (s : Bool) → (s ≡ false → p ≡ zeros) → cond (stalled (taken-from s)) (taken-from s .payload) zeros ≡ p
   payload-back true z = ap (λ (t : Sample). cond (stalled t) (t .payload) zeros) (stall-sample p)
   payload-back false z = sym (z refl)
+
+-- and the counter that is due
+due-back : (counted : Bool) (due : ℕ) → (counted ≡ false → due ≡ 0) → cond counted due 0 ≡ due
+due-back true due z = refl
+due-back false due z = sym (z refl)
 
 -- the record of the watch that a clean record gives is that record
 kept-back : (m : Monitor) → Clean m → kept (m .seq) (m .cycles) (m .handshakes) (m .clears) (watchOf m) ≡ m
@@ -71,7 +120,7 @@ kept-back m c =
       stalled = stall-back (m .payload) (m .stalled) i;
       payload = payload-back (m .payload) (m .stalled) (c .unstalled) i;
       counted = m .counted;
-      due = m .due;
+      due = due-back (m .counted) (m .due) (c .uncounted) i;
     }
 
 module _ (m : Monitor) (controls words : List ℕ) where
@@ -116,6 +165,7 @@ module _ (m : Monitor) (controls words : List ℕ) where
   stands-next : (n : ℕ) (f : Finding RuleName) (o : Option RuleName) (r : Monitor) → firstOf (rules n) ≡ o → Stands n f r → Stands (suc n) (found f o n) (oneMore r (trace n))
   stands-next n clean none r e s =
       judged-in n none r e s
+      ∙ passed-alike (m .seq) (m .cycles + n) (handshakes-in n) (clears-in n) (watch-in n) (getD controls n 0) (getD words n 0)
       ∙ (λ i. kept (m .seq) (seen-more n i) (counted-more (handshakeAt trace) (m .handshakes) n i) (counted-more (clearAt trace) (m .clears) n i)
       (watch-in (suc n)))
   stands-next n clean (some rule) r e s =

@@ -33,6 +33,10 @@ watchOf m =
 abbrev pub payloadKept : Watch → Payload
 payloadKept w = cond (stalled (before w)) (before w .payload) zeros
 
+-- and of the counters: the one due, if one was carried
+abbrev pub dueKept : Watch → ℕ
+dueKept w = cond (w .counted) (w .due) 0
+
 -- the clean record of a watch
 abbrev pub kept : (seqOn : Bool) → (cycles handshakes clears : ℕ) → Watch → Monitor
 kept seqOn cycles handshakes clears w =
@@ -47,7 +51,7 @@ kept seqOn cycles handshakes clears w =
       stalled = stalled (before w);
       payload = payloadKept w;
       counted = w .counted;
-      due = w .due;
+      due = dueKept w;
     }
 
 -- a broken record

@@ -9,7 +9,7 @@ ghost use Rattle.stream_checker.specs.Written.{ruleName};
 ghost use Rattle.monitor.specs.Record.{legal};
 ghost use Rattle.monitor.specs.Cycle.{afterCycles};
 ghost use Rattle.monitor.specs.Bursts.{maxSeen};
-ghost use Rattle.monitor.specs.Step.{watchOf, payloadKept, kept, brokenAt, stillBroken, brokenIn};
+ghost use Rattle.monitor.specs.Step.{watchOf, payloadKept, dueKept, kept, brokenAt, stillBroken, brokenIn};
 use crate::Monitor;
 use signals::BROKEN;
 use signals::CLEAN;
@@ -60,6 +60,13 @@ fn payload_kept(watch: Watch) -> Payload
     }
 }
 
+// And of the counters: the one due, if one was carried.
+fn due_kept(watch: Watch) -> u32
+    ensures { λ r. ⌜ r ≡ dueKept watch ⌝ }
+{
+    if watch.counted { watch.due } else { 0 }
+}
+
 // The record of cycles that break no rule.
 fn clean_record(seq: bool, cycles: u32, handshakes: u32, clears: u32, watch: Watch) -> Monitor
     ensures { λ r. ⌜ r ≡ kept seq cycles handshakes clears watch ⌝ }
@@ -75,7 +82,7 @@ fn clean_record(seq: bool, cycles: u32, handshakes: u32, clears: u32, watch: Wat
         stalled: stalled(watch.control),
         payload: payload_kept(watch),
         counted: watch.counted,
-        due: watch.due,
+        due: due_kept(watch),
     }
 }
 

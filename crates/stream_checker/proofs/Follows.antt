@@ -1,7 +1,7 @@
 -- A watch follows a trace: what it keeps is what the rules ask of the cycles before, so it finds what they find.
 -- Each cycle by one step of the watch; the counters by the last one carried since a clear cycle. Assumes nothing.
 use Prim.Native.Nat.{ℕ, zero, suc}
-use mathlib.Core.Bool.{Bool, true, false, cond, not, _&&_}
+use mathlib.Core.Bool.{Bool, true, false, cond, not, _&&_, _||_}
 use mathlib.Core.List.{List}
 use mathlib.Core.Option.{Option, none, some}
 use mathlib.Core.Path.{_≡_, refl, _∙_, ap}
@@ -30,7 +30,7 @@ record Follows (seqOn : Bool) (trace : ℕ → Sample) (i : ℕ) (w : Watch) : T
 
 counted-next :
     (clear carries : Bool) (n : ℕ) (last : Option ℕ) (counted : Bool) (due : ℕ) → Counted last counted due →
-    Counted (cond clear none (cond carries (some n) last)) (cond clear false (cond carries true counted)) (cond clear 0 (cond carries (afterCounter n) due))
+    Counted (cond clear none (cond carries (some n) last)) (not clear && (carries || counted)) (cond carries (afterCounter n) due)
 counted-next true carries n last counted due h = refl
 counted-next false true n last counted due h = (refl, refl)
 counted-next false false n last counted due h = h

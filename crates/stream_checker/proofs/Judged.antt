@@ -2,11 +2,12 @@
 -- Assumes nothing.
 use Prim.Native.Nat.{ℕ, zero, suc, _+_, _<_, _≤_, min}
 use native.Mathlib.Omega.{arith}
+use native.Mathlib.Nat.{add-zero}
 use native.Mathlib.Numerals.{add-one}
-use mathlib.Core.Bool.{Bool, cond}
-use mathlib.Core.List.{List}
+use mathlib.Core.Bool.{Bool, true, false, cond}
+use mathlib.Core.List.{List, []}
 use mathlib.Core.Option.{Option, none, some}
-use mathlib.Core.Path.{_≡_, refl, sym, _∙_, ap}
+use mathlib.Core.Path.{_≡_, refl, sym, _∙_, ap, subst, subst₂}
 use lib.ListN.{length, getD}
 use Rattle.signals.specs.Judging.{Finding, clean, broken, found, countBelow, findingBelow, cyclesCounted}
 use Rattle.signals.specs.Stream.{sampleAt}
@@ -20,17 +21,10 @@ use Rattle.stream_checker.specs.declared.Seen.{Seen}
 use Rattle.stream_checker.specs.declared.watch.Watch.{Watch}
 use Rattle.stream_checker.specs.Rules.{rules}
 use Rattle.stream_checker.specs.Verdicts.{handshakeAt, clearAt, Answer, answerBelow}
-use Rattle.stream_checker.specs.Step.{start, rulesAfter, next, watchAfter, rulesFrom, Sight, sightBelow, findingOf, sightOf}
+use Rattle.stream_checker.specs.Step.{start, rulesOf, rulesAfter, next, watchAfter, rulesFrom, Sight, sightBelow, findingOf, sightOf, SoFar}
 use Rattle.stream_checker.specs.Step.Sight.{finding, handshakes, clears}
 use Rattle.stream_checker.specs.Written.{ruleName}
 use Rattle.stream_checker.proofs.Follows.{rules-from-start}
-
--- nothing is found in the cycles below i, and the counts and the watch are those after them
-pub record SoFar (w : Watch) (controls words : List ℕ) (seqOn : Bool) (i handshakes clears : ℕ) (after : Watch) : Type 0 where
-  pub nothing : findingBelow (rulesFrom w controls words seqOn) i ≡ clean
-  pub counted : handshakes ≡ countBelow (handshakeAt (sampleAt controls words)) i
-  pub cleared : clears ≡ countBelow (clearAt (sampleAt controls words)) i
-  pub watched : after ≡ watchAfter seqOn w controls words i
 
 module _ (w : Watch) (controls words : List ℕ) (seqOn : Bool) where
   pub so-far-start : SoFar w controls words seqOn 0 0 0 w
@@ -41,24 +35,48 @@ module _ (w : Watch) (controls words : List ℕ) (seqOn : Bool) where
     found-there : (r : Option RuleName) → r ≡ firstOf (rulesAfter after (sampleAt controls words i) seqOn) → firstOf (rulesFrom w controls words seqOn i) ≡ r
     found-there r e = sym (e ∙ ap (λ (v : Watch). firstOf (rulesAfter v (sampleAt controls words i) seqOn)) (so-far .watched))
 
-    pub sight-stops :
-        (n : ℕ) (r : RuleName) → i < n → some r ≡ firstOf (rulesAfter after (sampleAt controls words i) seqOn) →
-        _≡_ {A = Sight} (record { finding = broken r i; handshakes = handshakes; clears = clears; watch = after }) (sightBelow w controls words seqOn n)
-    sight-stops n r h e =
-        rw (stops (rulesFrom w controls words seqOn) i n r h (so-far .nothing) (found-there (some r) e), so-far .counted, so-far .cleared, so-far .watched)
+    -- a cycle that is no clear cycle is judged by all rules
+    all-judged : clearAt (sampleAt controls words) i ≡ false → firstOf (rulesOf after (sampleAt controls words i) seqOn) ≡ firstOf (rulesAfter after (sampleAt controls words i) seqOn)
+    all-judged e = ap (λ (b : Bool). firstOf (cond b [] (rulesOf after (sampleAt controls words i) seqOn))) (sym e)
 
-    pub sight-goes :
-        none ≡ firstOf (rulesAfter after (sampleAt controls words i) seqOn) →
+    pub sight-stops :
+        (n : ℕ) (r : RuleName) → i < n → clearAt (sampleAt controls words) i ≡ false → some r ≡ firstOf (rulesOf after (sampleAt controls words i) seqOn) →
+        _≡_ {A = Sight} (record { finding = broken r i; handshakes = handshakes; clears = clears; watch = after }) (sightBelow w controls words seqOn n)
+    sight-stops n r h unclear e =
+        rw (stops (rulesFrom w controls words seqOn) i n r h (so-far .nothing) (found-there (some r) (e ∙ all-judged unclear)), so-far .counted, so-far .cleared, so-far .watched)
+
+    -- a cycle that is judged and breaks no rule
+    goes : none ≡ firstOf (rulesAfter after (sampleAt controls words i) seqOn) →
         SoFar w controls words seqOn (i + 1) (handshakes + cond (handshakeAt (sampleAt controls words) i) 1 0)
         (clears + cond (clearAt (sampleAt controls words) i) 1 0)
         (next seqOn after (getD controls i 0) (getD words i 0))
-    sight-goes e =
+    goes e =
         record {
           nothing = goes-on (rulesFrom w controls words seqOn) i (so-far .nothing) (found-there none e);
           counted = rw (add-one i, so-far .counted);
           cleared = rw (add-one i, so-far .cleared);
           watched = rw (add-one i, so-far .watched);
         }
+
+    -- a clear cycle is counted, and not judged
+    pub sight-clears :
+        clearAt (sampleAt controls words) i ≡ true →
+        SoFar w controls words seqOn (i + 1) handshakes (clears + 1) (next seqOn after (getD controls i 0) (getD words i 0))
+    sight-clears e =
+        let same : handshakes + cond (handshakeAt (sampleAt controls words) i) 1 0 ≡ handshakes = rw (e, add-zero handshakes) in
+        let more : clears + cond (clearAt (sampleAt controls words) i) 1 0 ≡ clears + 1 = rw e in
+        let free : none ≡ firstOf (rulesAfter after (sampleAt controls words i) seqOn) = rw e in
+        subst₂ (λ (h k : ℕ). SoFar w controls words seqOn (i + 1) h k (next seqOn after (getD controls i 0) (getD words i 0))) same more (goes free)
+
+    pub sight-goes :
+        clearAt (sampleAt controls words) i ≡ false → none ≡ firstOf (rulesOf after (sampleAt controls words i) seqOn) →
+        SoFar w controls words seqOn (i + 1) (handshakes + cond (handshakeAt (sampleAt controls words) i) 1 0) clears (next seqOn after (getD controls i 0) (getD words i 0))
+    sight-goes e free =
+        let same : clears + cond (clearAt (sampleAt controls words) i) 1 0 ≡ clears = rw (e, add-zero clears) in
+        subst
+        (λ (k : ℕ). SoFar w controls words seqOn (i + 1) (handshakes + cond (handshakeAt (sampleAt controls words) i) 1 0) k (next seqOn after (getD controls i 0) (getD words i 0)))
+        same
+        (goes (free ∙ all-judged e))
 
     pub sight-ends :
         (n : ℕ) → i ≡ n →

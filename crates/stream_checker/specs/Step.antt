@@ -1,9 +1,10 @@
 -- The checker's step over one cycle: what it keeps of the cycles before, which rule one more breaks first, and so over further cycles.
 -- `judge_cycles` and the private functions cite this; the promise of `check_stream` does not. Assumes nothing.
-use Prim.Native.Nat.{ℕ, zero, suc}
-use mathlib.Core.Bool.{Bool, true, false, cond, not, _&&_}
+use Prim.Native.Nat.{ℕ, zero, suc, _<_, _≤_}
+use mathlib.Core.Bool.{Bool, true, false, cond, not, _&&_, _||_}
 use mathlib.Core.List.{List, [], _∷_}
 use mathlib.Core.Option.{Option, none, some}
+use mathlib.Core.Path.{_≡_}
 use lib.Dec.{eqb}
 use lib.ListN.{getD}
 use Rattle.signals.specs.Judging.{Finding, clean, broken, countBelow, findingBelow, cyclesCounted}
@@ -13,6 +14,7 @@ use Rattle.signals.specs.Written.{RuleName, seq}
 use Rattle.stream_checker.specs.declared.Found.{Found}
 use Rattle.stream_checker.specs.declared.Found.the-variants.{NoBreach, First}
 use Rattle.stream_checker.specs.declared.Seen.{Seen}
+use Rattle.stream_checker.specs.declared.Stretch.{Stretch}
 use Rattle.stream_checker.specs.declared.watch.Breach.{Breach}
 use Rattle.stream_checker.specs.declared.watch.Breach.the-variants.{Nothing, Of}
 use Rattle.stream_checker.specs.declared.watch.Watch.{Watch}
@@ -52,16 +54,15 @@ abbrev pub ruleIn : Breach → Option RuleName
 ruleIn Nothing = none
 ruleIn (Of rule) = some (ruleName rule)
 
--- the watch after a cycle; counters are kept where rule seq is judged, and none is after a clear cycle
+-- the watch after a cycle; counters are kept where rule seq is judged, up to the next clear cycle
 abbrev pub next : (seqOn : Bool) → Watch → (control word : ℕ) → Watch
 next seqOn w control word =
     let now = sample control word in
-    let carries = seqOn && carriesCounter now in
     record {
       control = control;
       «data» = word;
-      counted = cond (clearCycle now) false (cond carries true (w .counted));
-      due = cond (clearCycle now) 0 (cond carries (afterCounter (counter now)) (w .due));
+      counted = not (clearCycle now) && ((seqOn && carriesCounter now) || w .counted);
+      due = cond (seqOn && carriesCounter now) (afterCounter (counter now)) (w .due);
     }
 
 -- the watch after the first n of further cycles
@@ -99,3 +100,21 @@ findingOf (First rule c) = broken (ruleName rule) c
 abbrev pub sightOf : Seen → Sight
 sightOf seen =
     record { finding = findingOf (seen .found); handshakes = seen .handshakes; clears = seen .clears; watch = seen .watch }
+
+-- nothing is found in the first i of further cycles, and the counts and the watch are those after them
+pub record SoFar (w : Watch) (controls words : List ℕ) (seqOn : Bool) (i handshakes clears : ℕ) (after : Watch) : Type 0 where
+  pub nothing : findingBelow (rulesFrom w controls words seqOn) i ≡ clean
+  pub counted : handshakes ≡ countBelow (handshakeAt (sampleAt controls words)) i
+  pub cleared : clears ≡ countBelow (clearAt (sampleAt controls words)) i
+  pub watched : after ≡ watchAfter seqOn w controls words i
+
+-- where a stretch of the first n leads that begins at a place: further on, with nothing found yet, or to the sight of them all
+abbrev pub LeadsBy : Found → Watch → (controls words : List ℕ) → (seqOn : Bool) → (from n : ℕ) → Stretch → Type 0
+LeadsBy NoBreach w controls words seqOn from n s =
+    SoFar w controls words seqOn (s .end) (s .handshakes) (s .clears) (s .watch) × (from < s .end) × (s .end ≤ n)
+LeadsBy (First rule c) w controls words seqOn from n s =
+    _≡_ {A = Sight} (record { finding = broken (ruleName rule) c; handshakes = s .handshakes; clears = s .clears; watch = s .watch })
+    (sightBelow w controls words seqOn n)
+
+abbrev pub Leads : Watch → (controls words : List ℕ) → (seqOn : Bool) → (from n : ℕ) → Stretch → Type 0
+Leads w controls words seqOn from n s = LeadsBy (s .found) w controls words seqOn from n s

@@ -13,7 +13,7 @@ ghost use Rattle.signals.specs.Stream.{sampleAt};
 ghost use Rattle.signals.specs.Tables.{firstOf};
 ghost use Rattle.stream_checker.specs.Verdicts.{grounds, answerBelow, checkStream};
 ghost use Rattle.stream_checker.specs.Written.{ruleName, written};
-ghost use Rattle.stream_checker.specs.Step.{sightBelow, sightOf};
+ghost use Rattle.stream_checker.specs.Step.{sightBelow, sightOf, SoFar, Leads};
 use signals::MAX_CYCLES;
 use signals::Outcome;
 use signals::Refusal;
@@ -67,6 +67,15 @@ pub struct Seen {
     pub watch: Watch,
 }
 
+// What is seen up to and with the next clear cycle, and the place after it.
+struct Stretch {
+    found: Found,
+    end: usize,
+    handshakes: usize,
+    clears: usize,
+    watch: Watch,
+}
+
 // A verdict, with the handshakes and the clears before the broken cycle, or in all cycles when clean.
 pub struct Checked {
     pub verdict: Verdict,
@@ -109,7 +118,65 @@ fn count_with(count: usize, counts: bool) -> usize
     if counts { count + 1 } else { count }
 }
 
-// Judges further cycles, as many as both sequences have, up to the first breach: the one loop for a trace and for a burst.
+// Judges further cycles from a place on, up to and with the next clear cycle, or up to the first breach: the one loop for a trace
+// and for a burst. The counts go on from those before.
+fn judge_stretch(
+    watch: Watch,
+    control: &[u8],
+    data: &[u32],
+    from: usize,
+    count: usize,
+    handshakes: usize,
+    clears: usize,
+    seq: bool,
+) -> Stretch
+    requires { ⌜ (count ≤ length (now control)) × (count ≤ length (now «data»)) × (from < count) × (handshakes ≤ from) × (clears ≤ from) ⌝ }
+    ensures { λ r. ⌜ ((w : Watch) → SoFar w (now (control .entry)) (now («data» .entry)) seq from handshakes clears watch → Leads w (now (control .entry)) (now («data» .entry)) seq from count r) ⌝ }
+{
+    // Field by field: the loop need not keep what lies between the fields.
+    let mut watch = Watch {
+        control: watch.control,
+        data: watch.data,
+        counted: watch.counted,
+        due: watch.due,
+    };
+    let mut handshakes = handshakes;
+    let mut i = from;
+    while i < count {
+        let c = control[i];
+        let d = data[i];
+        if clear(c) {
+            return Stretch {
+                found: Found::NoBreach,
+                end: i + 1,
+                handshakes,
+                clears: clears + 1,
+                watch: watch.cleared(c, d),
+            };
+        }
+        if let Breach::Of(rule) = watch.breach(c, d, seq) {
+            return Stretch {
+                found: Found::First(rule, i),
+                end: i,
+                handshakes,
+                clears,
+                watch,
+            };
+        }
+        handshakes = count_with(handshakes, handshake(c));
+        watch = watch.next(c, d, seq);
+        i += 1;
+    }
+    Stretch {
+        found: Found::NoBreach,
+        end: i,
+        handshakes,
+        clears,
+        watch,
+    }
+}
+
+// Judges further cycles, as many as both sequences have, up to the first breach.
 pub fn judge_cycles(watch: Watch, control: &[u8], data: &[u32], seq: bool) -> Seen
     ensures { λ r. ⌜ sightOf r ≡ sightBelow watch (now (control .entry)) (now («data» .entry)) seq (min (length (now (control .entry))) (length (now («data» .entry)))) ⌝ }
 {
@@ -119,20 +186,20 @@ pub fn judge_cycles(watch: Watch, control: &[u8], data: &[u32], seq: bool) -> Se
     let mut clears = 0;
     let mut i = 0;
     while i < count {
-        let c = control[i];
-        let d = data[i];
-        if let Breach::Of(rule) = watch.breach(c, d, seq) {
+        let stretch = judge_stretch(watch, control, data, i, count, handshakes, clears, seq);
+        let found = stretch.found;
+        handshakes = stretch.handshakes;
+        clears = stretch.clears;
+        watch = stretch.watch;
+        if let Found::First(rule, c) = found {
             return Seen {
-                found: Found::First(rule, i),
+                found: Found::First(rule, c),
                 handshakes,
                 clears,
                 watch,
             };
         }
-        handshakes = count_with(handshakes, handshake(c));
-        clears = count_with(clears, clear(c));
-        watch = watch.next(c, d, seq);
-        i += 1;
+        i = stretch.end;
     }
     Seen {
         found: Found::NoBreach,

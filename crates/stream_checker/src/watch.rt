@@ -1,11 +1,11 @@
 // What the checker keeps of the cycles that it has seen, and its step over one more.
-ghost use mathlib.Core.Bool.{_&&_};
+ghost use mathlib.Core.Bool.{Bool, true, false, _&&_};
 ghost use mathlib.Core.Path.{_≡_};
 ghost use Rattle.signals.specs.Payloads.{strobed, samePayload};
-ghost use Rattle.signals.specs.Stream.{sample, handshake};
+ghost use Rattle.signals.specs.Stream.{sample, clearBit, handshake};
 ghost use Rattle.stream_checker.specs.Rules.{stalled, carriesCounter, counter, afterCounter};
 ghost use Rattle.signals.specs.Tables.{firstOf};
-ghost use Rattle.stream_checker.specs.Step.{before, start, breaksSeqAfter, rulesOf, rulesAfter, seqAfter, ruleIn, next};
+ghost use Rattle.stream_checker.specs.Step.{before, start, breaksSeqAfter, rulesOf, seqAfter, ruleIn, next};
 use crate::Rule;
 use signals::stream::clear;
 use signals::stream::ready;
@@ -26,7 +26,7 @@ pub struct Watch {
     // The cycle before.
     pub control: u8,
     pub data: u32,
-    // Whether a counter was carried since the last clear, where rule seq is judged, and the counter that is due next.
+    // Whether a counter was carried since the last clear, where rule seq is judged, and then the counter that is due next.
     pub counted: bool,
     pub due: u32,
 }
@@ -110,8 +110,8 @@ impl Watch {
         }
     }
 
-    // The first rule in order that the next cycle breaks.
-    fn first_broken(self, control: u8, data: u32, seq: bool) -> Breach
+    // The first rule in order that the next cycle breaks, where it is judged.
+    pub(crate) fn breach(self, control: u8, data: u32, seq: bool) -> Breach
         ensures { λ r. ⌜ ruleIn r ≡ firstOf (rulesOf self (sample control «data») seq) ⌝ }
     {
         if stalled(self.control) {
@@ -131,34 +131,41 @@ impl Watch {
         }
     }
 
-    // The same, where the next cycle is judged: a clear cycle is not.
-    pub(crate) fn breach(self, control: u8, data: u32, seq: bool) -> Breach
-        ensures { λ r. ⌜ ruleIn r ≡ firstOf (rulesAfter self (sample control «data») seq) ⌝ }
+    // The counter that is due after the next cycle.
+    fn due_next(self, control: u8, data: u32) -> u32
+        ensures { λ r. ⌜ r ≡ next true self control «data» .due ⌝ }
     {
-        if clear(control) {
-            return Breach::Nothing;
+        if carries_counter(control) {
+            due_after(data)
+        } else {
+            self.due
         }
-        self.first_broken(control, data, seq)
     }
 
-    // The watch after the next cycle. Counters are kept where rule seq is judged, and a clear cycle drops them.
+    // The watch after a clear cycle, which drops the counter.
+    pub(crate) fn cleared(self, control: u8, data: u32) -> Watch
+        requires { ⌜ clearBit control ≡ true ⌝ }
+        ensures { λ r. ⌜ ((seqOn : Bool) → r ≡ next seqOn self control «data») ⌝ }
+    {
+        Watch {
+            control,
+            data,
+            counted: false,
+            due: self.due,
+        }
+    }
+
+    // The watch after any other cycle; counters are kept where rule seq is judged.
     pub(crate) fn next(self, control: u8, data: u32, seq: bool) -> Watch
+        requires { ⌜ clearBit control ≡ false ⌝ }
         ensures { λ r. ⌜ r ≡ next seq self control «data» ⌝ }
     {
-        if clear(control) {
+        if seq {
             return Watch {
                 control,
                 data,
-                counted: false,
-                due: 0,
-            };
-        }
-        if seq & carries_counter(control) {
-            return Watch {
-                control,
-                data,
-                counted: true,
-                due: due_after(data),
+                counted: carries_counter(control) | self.counted,
+                due: self.due_next(control, data),
             };
         }
         Watch {

@@ -1,12 +1,14 @@
 -- `judge_cycles` meets its contract. The invariant: nothing is found in the cycles below `i`, and the counts and the watch are those after
--- them. The measure is what is left of the cycles. Assumes nothing.
-use mathlib.Core.Path.{_≡_, sym, _∙_, ap}
-use Prim.Native.Nat.{_≤_, _-_, min}
+-- them. Each turn is a stretch, which leads further on or to the sight of all. Assumes nothing.
+use mathlib.Core.Path.{_≡_, sym, _∙_, ap, subst}
+use Prim.Native.Nat.{ℕ, _<_, _≤_, _-_, min}
 use native.Mathlib.Omega.{arith}
 use borrow.Author.Needs.{needs}
 use lib.ListN.{length}
-use Rattle.stream_checker.specs.Step.{ruleIn}
-use Rattle.stream_checker.proofs.Judged.{SoFar, so-far-start, sight-stops, sight-goes, sight-ends, so-far-le}
+use Rattle.stream_checker.specs.declared.Found.{Found}
+use Rattle.stream_checker.specs.declared.Found.the-variants.{NoBreach}
+use Rattle.stream_checker.specs.Step.{sightBelow, SoFar, LeadsBy}
+use Rattle.stream_checker.proofs.Judged.{so-far-start, sight-ends, so-far-le}
 use Rattle.stream_checker.proofs.judge_cycles.Statement.{statement}
 use Rattle.stream_checker.proofs.judge_cycles.Tie as tie
 
@@ -23,75 +25,46 @@ cycles-of-requires c κs = search needs
 loop-holds : tie.Need-loop-holds Inv-loop μ-loop
 loop-holds c = (omega arith, so-far-start _ _ _ _)
 
-shared-slice-read-c : tie.Need-shared-slice-read-c Inv-loop μ-loop
-shared-slice-read-c c = omega (arith, c .before .before .before .cycles-of .ensures)
+judge-stretch-requires : tie.Need-judge-stretch-requires Inv-loop μ-loop
+judge-stretch-requires c κs =
+    let l = c .before .loop in
+    let few = c .before .before .cycles-of .ensures in
+    let h = so-far-le _ _ _ _ (l .i) (l .handshakes) (l .clears) (l .watch) (l .inv .1) in
+    (omega (arith, few), omega (arith, few), c .loop-test .taken, h .0, h .1)
 
-mul-d : tie.Need-mul-d Inv-loop μ-loop
-mul-d c = search needs
+-- where a stretch leads, by what is found in it
+leads : (c : tie.After-judge-stretch Inv-loop μ-loop) (f : Found) → c .judge-stretch .result .found ≡ f →
+    let l = c .before .before .loop in
+    let a = c .before .before .before .before .before .before .args in
+    LeadsBy f (a .watch) (a .control .now) (a .«data» .now) (a .seq) (l .i) (c .before .before .before .cycles-of .result) (c .judge-stretch .result)
+leads c f e =
+    let l = c .before .before .loop in
+    let a = c .before .before .before .before .before .before .args in
+    let s = c .judge-stretch in
+    subst (λ (g : Found). LeadsBy g (a .watch) (a .control .now) (a .«data» .now) (a .seq) (l .i) (c .before .before .before .cycles-of .result) (s .result)) e
+    (s .ensures (a .watch) (l .inv .1))
 
-shared-slice-read-d : tie.Need-shared-slice-read-d Inv-loop μ-loop
-shared-slice-read-d c = omega (arith, c .before .before .before .before .cycles-of .ensures)
-
-breach-requires : tie.Need-breach-requires Inv-loop μ-loop
-breach-requires c κs = search needs
-
-enum-known-rule : tie.Need-enum-known-rule Inv-loop μ-loop
-enum-known-rule c = search needs
+enum-known-found : tie.Need-enum-known-found Inv-loop μ-loop
+enum-known-found c = search needs
 
 returns : tie.Need-returns Inv-loop μ-loop
 returns c =
-    let a = c .before .before .before .before .before .before .before .before .before .before .before .args in
-    let l = c .before .before .before .before .before .before .before .loop in
-    sight-stops (a .watch) (a .control .now) (a .«data» .now) (a .seq) (l .i) (l .handshakes) (l .clears) (l .watch) (l .inv .1)
-    (min (length (a .control .now)) (length (a .«data» .now))) _
-    (omega (arith, c .before .before .before .before .before .before .before .before .cycles-of .ensures))
-    (ap ruleIn (sym (c .before .rule .given .1)) ∙ c .before .before .before .breach .ensures)
+    let a = c .before .before .before .before .before .before .before .before .before .before .args in
+    leads (c .before .before .before .before) _ (c .before .found .given .1)
+    ∙ ap (λ (n : ℕ). sightBelow (a .watch) (a .control .now) (a .«data» .now) (a .seq) n) (c .before .before .before .before .before .before .before .cycles-of .ensures)
 
 enum-told : tie.Need-enum-told Inv-loop μ-loop
 enum-told c = search needs
 
-handshake-requires : tie.Need-handshake-requires Inv-loop μ-loop
-handshake-requires c κs = search needs
-
-count-with-requires : tie.Need-count-with-requires Inv-loop μ-loop
-count-with-requires c κs =
-    let l = c .before .before .before .before .before .before .before .loop in
-    let h = so-far-le _ _ _ _ (l .i) (l .handshakes) (l .clears) (l .watch) (l .inv .1) .0 in
-    omega (arith, h, c .before .before .before .before .before .before .before .before .cycles-of .ensures)
-
-clear-requires : tie.Need-clear-requires Inv-loop μ-loop
-clear-requires c κs = search needs
-
-count-with-requires-2 : tie.Need-count-with-requires-2 Inv-loop μ-loop
-count-with-requires-2 c κs =
-    let l = c .before .before .before .before .before .before .before .before .before .loop in
-    let h = so-far-le _ _ _ _ (l .i) (l .handshakes) (l .clears) (l .watch) (l .inv .1) .1 in
-    omega (arith, h, c .before .before .before .before .before .before .before .before .before .before .cycles-of .ensures)
-
-next-requires : tie.Need-next-requires Inv-loop μ-loop
-next-requires c κs = search needs
-
--- the turn of the loop whose counts and watch were just made
-abbrev turn : tie.After-next Inv-loop μ-loop → tie.After-enum-told Inv-loop μ-loop
-turn c = c .before .before .before .before .before
-
-add-i : tie.Need-add-i Inv-loop μ-loop
-add-i c = omega (arith, turn c .before .before .before .before .before .before .before .cycles-of .ensures)
-
 loop-less : tie.Need-loop-less Inv-loop μ-loop
-loop-less c = omega arith
+loop-less c =
+    let further = leads (c .before .before .before) NoBreach (c .enum-told .given .1) in
+    omega (arith, further .1, further .2)
 
 loop-again : tie.Need-loop-again Inv-loop μ-loop
 loop-again c =
-    let a = turn c .before .before .before .before .before .before .before .before .before .before .args in
-    let l = turn c .before .before .before .before .before .before .loop in
-    let handshakes = rw (c .before .before .before .before .handshake .ensures) at (c .before .before .before .count-with .ensures) in
-    let clears = rw (c .before .before .clear .ensures) at (c .before .count-with2 .ensures) in (
-      omega arith,
-      rw (handshakes, clears, c .next .ensures)
-          (sight-goes (a .watch) (a .control .now) (a .«data» .now) (a .seq) (l .i) (l .handshakes) (l .clears) (l .watch) (l .inv .1)
-          (ap ruleIn (sym (turn c .enum-told .given .1)) ∙ turn c .before .before .breach .ensures)),
-    )
+    let further = leads (c .before .before .before) NoBreach (c .enum-told .given .1) in
+    (further .2, further .0)
 
 returns-2 : tie.Need-returns-2 Inv-loop μ-loop
 returns-2 c =
@@ -109,19 +82,10 @@ judge-cycles-spec =
     μ-loop
     cycles-of-requires
     loop-holds
-    shared-slice-read-c
-    mul-d
-    shared-slice-read-d
-    breach-requires
-    enum-known-rule
+    judge-stretch-requires
+    enum-known-found
     returns
     enum-told
-    handshake-requires
-    count-with-requires
-    clear-requires
-    count-with-requires-2
-    next-requires
-    add-i
     loop-less
     loop-again
     returns-2)

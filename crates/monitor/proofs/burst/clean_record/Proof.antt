@@ -9,8 +9,11 @@ stalled-requires c κs = search needs
 payload-kept-requires : tie.Need-payload-kept-requires
 payload-kept-requires c κs = search needs
 
+due-kept-requires : tie.Need-due-kept-requires
+due-kept-requires c κs = search needs
+
 returns : tie.Need-returns
-returns c = simp (c .before .stalled .ensures, c .payload-kept .ensures)
+returns c = simp (c .before .before .stalled .ensures, c .before .payload-kept .ensures, c .due-kept .ensures)
 
 pub clean-record-spec : {M : Type 1} → statement M
-clean-record-spec = tie.close (tie.spec stalled-requires payload-kept-requires returns)
+clean-record-spec = tie.close (tie.spec stalled-requires payload-kept-requires due-kept-requires returns)
