@@ -1,5 +1,6 @@
 -- Demand 3 at work on two FIFOs of depth 2: its bound is met exactly, and a session of steps and runs, two of them refused and one with a
--- clear, meets its hypotheses. Everything computes but the values of FIFOs, which are `fifo`'s affair: it has some FIFO of each (`some-fifo`). Assumes nothing.
+-- clear, meets its hypotheses. Everything computes but the values of FIFOs, which are `fifo`'s affair: it has some FIFO of each
+-- (`some-fifo`). Assumes nothing.
 use Prim.Native.Nat.{ℕ, _-_}
 use native.Mathlib.Omega.{arith}
 use mathlib.Core.Bool.{Bool, true, false, true≢false}

@@ -91,8 +91,8 @@ abbrev pub Drops : Ledger → Cycle → (dropped : List Payload) → Type 0
 Drops l c dropped =
     l .accepted ++ acceptedIn (l .line) c ≡ l .delivered ++ deliveredIn (l .line) c ++ dropped ++ heldIn (after (l .line) c)
 
--- A clear cycle: its offer is not accepted and nothing is delivered; the payloads dropped are exactly those held when it began; and accepted
--- since the last clear is delivered followed by dropped.
+-- A clear cycle: its offer is not accepted and nothing is delivered; the payloads dropped are exactly those held when it began; and
+-- accepted since the last clear is delivered followed by dropped.
 pub record Clears (l : Ledger) (c : Cycle) : Type 0 where
   pub accepts-none : acceptedIn (l .line) c ≡ []
   pub delivers-none : deliveredIn (l .line) c ≡ []

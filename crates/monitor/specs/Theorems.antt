@@ -1,5 +1,5 @@
--- Requests T-05 and T-09: what a record that was fed with bursts says. Three theorems; `proofs/Cutting.antt` and `proofs/Reached.antt` have the
--- proofs. Assumes nothing.
+-- Requests T-05 and T-09: what a record that was fed with bursts says. Three theorems; `proofs/Cutting.antt` and `proofs/Reached.antt`
+-- have the proofs. Assumes nothing.
 use Prim.Native.Nat.{ℕ, _<_, _≤_, _^_}
 use mathlib.Core.Bool.{Bool, true, cond}
 use mathlib.Core.List.{List, [], _∷_, _++_}

@@ -74,7 +74,8 @@ watchAfter seqOn w controls words (suc n) = next seqOn (watchAfter seqOn w contr
 abbrev pub rulesFrom : Watch → (controls words : List ℕ) → (seqOn : Bool) → ℕ → List (Row RuleName)
 rulesFrom w controls words seqOn c = rulesAfter (watchAfter seqOn w controls words c) (sampleAt controls words c) seqOn
 
--- What is seen in further cycles: the first breach, and the handshakes, the clear cycles and the watch before it; or none, and those at the end.
+-- What is seen in further cycles: the first breach, and the handshakes, the clear cycles and the watch before it; or none, and those at
+-- the end.
 pub record Sight : Type 0 where
   pub finding : Finding RuleName
   pub handshakes : ℕ
@@ -108,7 +109,7 @@ pub record SoFar (w : Watch) (controls words : List ℕ) (seqOn : Bool) (i hands
   pub cleared : clears ≡ countBelow (clearAt (sampleAt controls words)) i
   pub watched : after ≡ watchAfter seqOn w controls words i
 
--- where a stretch of the first n leads that begins at a place: further on, with nothing found yet, or to the sight of them all
+-- where a stretch leads that begins at one of the first n: further on, with nothing found yet; or, by a breach, to the sight of them all
 abbrev pub LeadsBy : Found → Watch → (controls words : List ℕ) → (seqOn : Bool) → (from n : ℕ) → Stretch → Type 0
 LeadsBy NoBreach w controls words seqOn from n s =
     SoFar w controls words seqOn (s .end) (s .handshakes) (s .clears) (s .watch) × (from < s .end) × (s .end ≤ n)

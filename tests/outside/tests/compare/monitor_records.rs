@@ -315,17 +315,32 @@ fn the_most_cycles() {
     }
 }
 
+/// Feeds a record its last two cycles; after them it takes no other, and an empty burst changes nothing.
+fn fed_to_the_end(before: &Monitor, control: [u8; 2], data: [u32; 2], want: Monitor) {
+    let mut record = *before;
+    assert_eq!(linked::monitor_feed(&mut record, &control, &data), 0);
+    assert_eq!(record, want);
+    assert_eq!(linked::monitor_feed(&mut record, &[], &[]), 0);
+    assert_eq!(linked::monitor_feed(&mut record, &[0], &[0]), 3);
+    assert_eq!(record, want);
+}
+
 /// The last cycle that a record may see, and its handshakes, its clears and its broken cycle.
 #[test]
 fn the_last_cycle() {
     let most = u32::MAX;
-    let mut record = Monitor {
+    let broken = Monitor {
+        cycles: most,
+        verdict: BROKEN,
+        rule: 4,
+        cycle: most - 1,
+        ..fresh(true)
+    };
+    let shaken = Monitor {
         cycles: most - 2,
         handshakes: most - 2,
         ..fresh(true)
     };
-    let mut broken = record;
-    assert_eq!(linked::monitor_feed(&mut record, &[3, 0xf3], &[0, 9]), 0);
     let want = Monitor {
         cycles: most,
         handshakes: most,
@@ -333,48 +348,25 @@ fn the_last_cycle() {
         due: 10,
         ..fresh(true)
     };
-    assert_eq!(record, want);
-    assert_eq!(linked::monitor_feed(&mut record, &[], &[]), 0);
-    assert_eq!(linked::monitor_feed(&mut record, &[0], &[0]), 3);
-    assert_eq!(record, want);
-    assert_eq!(linked::monitor_feed(&mut broken, &[1, 0], &[0, 0]), 0);
+    fed_to_the_end(&shaken, [3, 0xf3], [0, 9], want);
+    let handshakes = most - 2;
     let want = Monitor {
-        cycles: most,
-        verdict: BROKEN,
-        rule: 4,
-        cycle: most - 1,
-        handshakes: most - 2,
-        ..fresh(true)
+        handshakes,
+        ..broken
     };
-    assert_eq!(broken, want);
-    assert_eq!(linked::monitor_feed(&mut broken, &[], &[]), 0);
-    assert_eq!(linked::monitor_feed(&mut broken, &[0], &[0]), 3);
-    assert_eq!(broken, want);
+    fed_to_the_end(&shaken, [1, 0], [0, 0], want);
 
-    let mut record = Monitor {
+    let cleared = Monitor {
         cycles: most - 2,
         clears: most - 2,
         ..fresh(true)
     };
-    let mut broken = record;
-    assert_eq!(linked::monitor_feed(&mut record, &[0xf7, 0xf5], &[0, 9]), 0);
     let want = Monitor {
         cycles: most,
         clears: most,
         ..fresh(true)
     };
-    assert_eq!(record, want);
-    assert_eq!(linked::monitor_feed(&mut record, &[], &[]), 0);
-    assert_eq!(linked::monitor_feed(&mut record, &[4], &[0]), 3);
-    assert_eq!(record, want);
-    assert_eq!(linked::monitor_feed(&mut broken, &[1, 0], &[0, 0]), 0);
-    let want = Monitor {
-        cycles: most,
-        verdict: BROKEN,
-        rule: 4,
-        cycle: most - 1,
-        clears: most - 2,
-        ..fresh(true)
-    };
-    assert_eq!(broken, want);
+    fed_to_the_end(&cleared, [0xf7, 0xf5], [0, 9], want);
+    let clears = most - 2;
+    fed_to_the_end(&cleared, [1, 0], [0, 0], Monitor { clears, ..broken });
 }
