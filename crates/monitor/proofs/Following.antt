@@ -21,7 +21,7 @@ use Rattle.stream_checker.specs.Verdicts.{handshakeAt, clearAt}
 use Rattle.stream_checker.specs.declared.watch.Watch.{Watch}
 use Rattle.monitor.specs.declared.Monitor.{Monitor}
 use Rattle.monitor.specs.Cycle.{lastSeen, notDue, rulesNext, passed, judgedNext, oneMore, afterCycles}
-use Rattle.monitor.specs.Step.{watchOf, kept, stillBroken, brokenIn}
+use Rattle.monitor.specs.Step.{watchOf, cleanWith, kept, stillBroken, brokenIn}
 use Rattle.monitor.proofs.Legal.{Clean, Broken}
 use Rattle.monitor.proofs.Stall.{stall-sample}
 
@@ -74,19 +74,11 @@ module _ (seqOn : Bool) (cycles handshakes clears : ℕ) (w : Watch) where
   passed-alike control word =
       let now = sample control word in
       let carries = seqOn && carriesCounter now in
-      λ i. record {
-        seq = seqOn;
-        cycles = cycles + 1;
-        verdict = 1;
-        rule = 0;
-        cycle = 0;
-        handshakes = handshakes + cond (handshake now) 1 0;
-        clears = clears + cond (clearCycle now) 1 0;
-        stalled = stalled now;
-        payload = cond (stalled now) (now .payload) zeros;
-        counted = counted-alike (clearCycle now) carries (w .counted) i;
-        due = due-next-alike (clearCycle now) carries (w .counted) (afterCounter (counter now)) (w .due) i;
-      }
+      λ i. cleanWith seqOn (cycles + 1) (handshakes + cond (handshake now) 1 0) (clears + cond (clearCycle now) 1 0)
+          (stalled now)
+          (cond (stalled now) (now .payload) zeros)
+          (counted-alike (clearCycle now) carries (w .counted) i)
+          (due-next-alike (clearCycle now) carries (w .counted) (afterCounter (counter now)) (w .due) i)
 
 -- the last cycle, taken from a record and put back
 module _ (p : Payload) where

@@ -16,31 +16,14 @@ use Rattle.stream_checker.specs.Rules.{counters, afterCounter}
 use Rattle.monitor.specs.declared.Monitor.{Monitor}
 use Rattle.monitor.specs.Bursts.{maxSeen}
 use Rattle.monitor.specs.Cycle.{oneMore}
-use Rattle.monitor.specs.Step.{brokenAt}
+use Rattle.monitor.specs.Step.{cleanWith, brokenAt}
 use Rattle.monitor.specs.Theorems.{Reached, RefusedExactly}
 use Rattle.monitor.proofs.Legal.{Clean, AfterStall, BySeq, Broken, legal-says}
 use Rattle.monitor.proofs.Keeps.{reached-legal}
 use Rattle.monitor.proofs.Stall.{stall-sample}
 use Rattle.monitor.proofs.OneCycle.{reached-next, fresh-reached, later}
 
--- a clean record; s is its switch
-abbrev cleanWith : (s : Bool) → (cycles handshakes clears : ℕ) → (stall : Bool) → Payload → (counted : Bool) → (due : ℕ) → Monitor
-cleanWith s cycles handshakes clears stall payload counted due =
-    record {
-      seq = s;
-      cycles = cycles;
-      verdict = 1;
-      rule = 0;
-      cycle = 0;
-      handshakes = handshakes;
-      clears = clears;
-      stalled = stall;
-      payload = payload;
-      counted = counted;
-      due = due;
-    }
-
--- one whose last cycle did not stall
+-- a clean record whose last cycle did not stall; s is its switch
 abbrev still : (s : Bool) → (cycles handshakes clears : ℕ) → (counted : Bool) → (due : ℕ) → Monitor
 still s cycles handshakes clears counted due = cleanWith s cycles handshakes clears false zeros counted due
 

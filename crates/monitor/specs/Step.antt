@@ -37,9 +37,10 @@ payloadKept w = cond (stalled (before w)) (before w .payload) zeros
 abbrev pub dueKept : Watch → ℕ
 dueKept w = cond (w .counted) (w .due) 0
 
--- the clean record of a watch
-abbrev pub kept : (seqOn : Bool) → (cycles handshakes clears : ℕ) → Watch → Monitor
-kept seqOn cycles handshakes clears w =
+-- a clean record
+abbrev pub cleanWith :
+    (seqOn : Bool) → (cycles handshakes clears : ℕ) → (stall : Bool) → Payload → (counted : Bool) → (due : ℕ) → Monitor
+cleanWith seqOn cycles handshakes clears stall payload counted due =
     record {
       seq = seqOn;
       cycles = cycles;
@@ -48,11 +49,16 @@ kept seqOn cycles handshakes clears w =
       cycle = 0;
       handshakes = handshakes;
       clears = clears;
-      stalled = stalled (before w);
-      payload = payloadKept w;
-      counted = w .counted;
-      due = dueKept w;
+      stalled = stall;
+      payload = payload;
+      counted = counted;
+      due = due;
     }
+
+-- the clean record of a watch
+abbrev pub kept : (seqOn : Bool) → (cycles handshakes clears : ℕ) → Watch → Monitor
+kept seqOn cycles handshakes clears w =
+    cleanWith seqOn cycles handshakes clears (stalled (before w)) (payloadKept w) (w .counted) (dueKept w)
 
 -- a broken record
 abbrev pub brokenAt : (seqOn : Bool) → (cycles rule cycle handshakes clears : ℕ) → Monitor
