@@ -14,9 +14,9 @@ use Rattle.signals.specs.Tables.{Row, _⇐_, firstOf}
 use Rattle.fifo.specs.Queue.{Queue, empty, legalDepth}
 use Rattle.chain.specs.Cycles.{Cycle, readyIn, outletIn, outletTrace, afterAll}
 
--- one to eight FIFOs
+-- one to sixteen FIFOs
 abbrev pub maxFifos : ℕ
-maxFifos = 8
+maxFifos = 16
 
 abbrev pub legalCount : ℕ → Bool
 legalCount k = leb 1 k && leb k maxFifos

@@ -8,14 +8,14 @@ use super::Chain;
 use super::MAX_FIFOS;
 use fifo::Fifo;
 
-// Says that an array of eight has eight elements, which is not known of one that is a field.
-fn all_eight(fifos: [Fifo; MAX_FIFOS]) -> bool
+// Says that an array of FIFOs has all of them, which is not known of one that is a field.
+fn every_fifo(fifos: [Fifo; MAX_FIFOS]) -> bool
     ensures { λ r. ⌜ length fifos ≡ maxFifos ⌝ }
 {
     true
 }
 
-// One to eight.
+// One to the longest.
 pub(crate) fn is_legal_count(count: usize) -> bool
     ensures { λ r. ⌜ r ≡ legalCount count ⌝ }
 {
@@ -27,7 +27,7 @@ impl Chain {
         ensures { λ r. ⌜ length (self .fifos) ≡ maxFifos ⌝ }
     {
         let fifos = self.fifos;
-        all_eight(fifos)
+        every_fifo(fifos)
     }
 
     // Whether each used FIFO has its form.

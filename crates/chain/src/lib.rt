@@ -1,7 +1,7 @@
-// One to eight FIFOs in a row, a cycle or a trace at a time.
+// One to sixteen FIFOs in a row, a cycle or a trace at a time.
 //
-// Writes out the line of "The stage and the line" of document 01, with request T-09. The crate sees of a FIFO its value and its promise
-// (`Queue` and `Promises` of `fifo`), and nothing of how it is kept. Demand 3 stands in `specs/Demand3.antt`.
+// Writes out the line of "The stage and the line" of document 01, with requests T-06 and T-09. The crate sees of a FIFO its value and its
+// promise (`Queue` and `Promises` of `fifo`), and nothing of how it is kept. Demand 3 stands in `specs/Demand3.antt`.
 mod cycle;
 mod empty;
 mod form;
@@ -21,7 +21,7 @@ use signals::Payload;
 use signals::Refusal;
 
 // The longest chain.
-pub const MAX_FIFOS: usize = 8;
+pub const MAX_FIFOS: usize = 16;
 
 // A chain of FIFOs, document 01's line: the first `count` of them, the mouth's first.
 #[repr(C)]

@@ -11,9 +11,9 @@ use Rattle.signals.specs.Payloads.{zeros, legalStrb}
 use Rattle.signals.specs.Refusals.{accepts}
 use Rattle.signals.specs.Tables.{Row, _⇐_, firstOf}
 
--- even, 2 to 16
+-- even, 2 to 64
 abbrev pub maxDepth : ℕ
-maxDepth = 16
+maxDepth = 64
 
 abbrev pub legalDepth : ℕ → Bool
 legalDepth depth = leb 2 depth && (leb depth maxDepth && eqb (depth % 2) 0)

@@ -11,7 +11,7 @@ ghost use Rattle.signals.specs.Payloads.{zeros};
 ghost use Rattle.fifo.specs.Queue.{isWell, readyOf, when, cleared, cycled};
 ghost use Rattle.fifo.specs.Ring.{value, trusted, queueOf, inRange};
 ghost use Rattle.fifo.specs.Promises.{Made, Steps, answered};
-use ring::all_sixteen;
+use ring::every_slot;
 use ring::is_legal_depth;
 use ring::wrap;
 use signals::MAX_STRB;
@@ -20,7 +20,7 @@ use signals::Payload;
 use signals::Refusal;
 
 // The deepest FIFO.
-pub const MAX_DEPTH: usize = 16;
+pub const MAX_DEPTH: usize = 64;
 
 // A FIFO, document 01's stage. `count` payloads lie in the slots from `oldest` on, around the end at `depth`.
 #[repr(C)]
@@ -116,7 +116,7 @@ impl Fifo {
         let oldest = self.oldest;
         let ready = self.has_room();
         let mut slots = self.slots;
-        all_sixteen(slots);
+        every_slot(slots);
         let mut shown = Payload { data: 0, strb: 0 };
         if 0 < count {
             shown = slots[oldest];

@@ -25,14 +25,14 @@ pub(crate) fn wrap(depth: usize, place: usize) -> usize
     if inside { place } else { place - depth }
 }
 
-// Says that an array of sixteen has sixteen elements, which is not known of one that is a field.
-pub(crate) fn all_sixteen(slots: [Payload; MAX_DEPTH]) -> bool
+// Says that an array of slots has all of them, which is not known of one that is a field.
+pub(crate) fn every_slot(slots: [Payload; MAX_DEPTH]) -> bool
     ensures { λ r. ⌜ length slots ≡ maxDepth ⌝ }
 {
     true
 }
 
-// Even, 2 to 16.
+// Even, from 2 to the deepest.
 pub(crate) fn is_legal_depth(depth: usize) -> bool
     ensures { λ r. ⌜ r ≡ legalDepth depth ⌝ }
 {

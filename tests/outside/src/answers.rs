@@ -9,8 +9,8 @@ pub const BROKEN: u8 = 2;
 pub const SEQ: u8 = 100;
 pub const ALIGN: u8 = 101;
 
-pub const MAX_DEPTH: usize = 16;
-pub const MAX_FIFOS: usize = 8;
+pub const MAX_DEPTH: usize = 64;
+pub const MAX_FIFOS: usize = 16;
 
 /// The verdict on a stream's trace; rule and cycle are 0 unless it is broken. Handshakes and clear cycles are those before the
 /// broken one, or all.

@@ -11,7 +11,7 @@ pub struct Line(pub Vec<Stage>);
 impl Line {
     /// The value of a line as it is kept, unless its form is broken. Stages past its count are not looked at.
     pub fn of(chain: &Chain) -> Option<Self> {
-        if !(1..=8).contains(&chain.count) {
+        if !(1..=16).contains(&chain.count) {
             return None;
         }
         let stages: Option<Vec<Stage>> = chain.fifos[..chain.count].iter().map(Stage::of).collect();
@@ -42,7 +42,7 @@ impl Line {
 }
 
 pub fn new_chain(depths: &[usize]) -> (u8, Line) {
-    let refusal = if !(1..=8).contains(&depths.len()) {
+    let refusal = if !(1..=16).contains(&depths.len()) {
         5
     } else if !depths.iter().all(|&d| legal_depth(d)) {
         4

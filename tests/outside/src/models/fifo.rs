@@ -32,7 +32,7 @@ pub fn refused(number: u8) -> Shown {
 }
 
 pub fn legal_depth(depth: usize) -> bool {
-    depth % 2 == 0 && (2..=16).contains(&depth)
+    depth % 2 == 0 && (2..=64).contains(&depth)
 }
 
 impl Stage {

@@ -27,15 +27,15 @@ returns c = rw (c .before .before .if1 .taken, c .silent .ensures, c .before .em
 has-room-requires : tie.Need-has-room-requires
 has-room-requires c κs = search needs
 
-all-sixteen-requires : tie.Need-all-sixteen-requires
-all-sixteen-requires c κs = search needs
+every-slot-requires : tie.Need-every-slot-requires
+every-slot-requires c κs = search needs
 
 -- the function's start, as seen from where the slots have been copied out
-abbrev start : tie.After-all-sixteen → tie.Start
+abbrev start : tie.After-every-slot → tie.Start
 start c = c .before .before .before .before
 
 -- ready is that of the list at the cycle's start
-room : (c : tie.After-all-sixteen) → c .before .before .has-room .result ≡ ready (queueOf (start c .args .self))
+room : (c : tie.After-every-slot) → c .before .before .has-room .result ≡ ready (queueOf (start c .args .self))
 room c = c .before .before .has-room .ensures
 
 mul-shown : tie.Need-mul-shown
@@ -102,7 +102,7 @@ gives c =
     let joins = sym (ap (λ (b : Bool). a .valid && b) (room copied)) in
     ⊎-elim
     (λ w. rw (w .2, w .3, w .1 .ensures)
-    (push-makes-next (a .self) p (a .sink) leaves (a .valid) (a .payload) (copied .all-sixteen .ensures) (joins ∙ w .0 .taken)))
+    (push-makes-next (a .self) p (a .sink) leaves (a .valid) (a .payload) (copied .every-slot .ensures) (joins ∙ w .0 .taken)))
     (λ w. rw (w .1, w .2) (no-push (a .self) p (a .sink) leaves (a .valid) (a .payload) (joins ∙ w .0 .left)))
     (c .if3 .came)
 
@@ -121,7 +121,7 @@ cycle-spec =
     silent-requires
     returns
     has-room-requires
-    all-sixteen-requires
+    every-slot-requires
     mul-shown
     array-copy-out-shown
     popped-requires

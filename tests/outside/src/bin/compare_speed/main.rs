@@ -21,9 +21,10 @@ const REPETITIONS: usize = 41;
 const TRACES: usize = 16;
 
 /// The chains that are timed, by the depths of their FIFOs.
-const LINES: [(&str, &[usize]); 2] = [
+const LINES: [(&str, &[usize]); 3] = [
     ("one FIFO of depth 2", &[2]),
     ("eight FIFOs of depth 16", &[16; 8]),
+    ("sixteen FIFOs of depth 64", &[64; 16]),
 ];
 
 /// How long one of so many calls in a row takes.
