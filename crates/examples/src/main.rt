@@ -1,18 +1,25 @@
 // Runs the Run examples of document 01, "Bench examples": the depths of a FIFO and the length of a trace that are accepted; for
-// request T-05, bursts longer than a trace; and, for request T-09, a chain's run with a clear in its midst.
+// request T-05, bursts longer than a trace; for request T-06, new and handed-in FIFOs and chains at their limits; and, for
+// request T-09, a chain's run with a clear in its midst.
 //
 // P1 to P12 and C1 to C6 are shown in `specs/Bench.antt`, and streams cut into bursts in `specs/Bursts.antt`.
 use chain::Chain;
+use chain::MAX_FIFOS;
 use fifo::Fifo;
+use fifo::MAX_DEPTH;
 use libc::STDOUT_FILENO;
 use monitor::MAX_SEEN;
 use monitor::Monitor;
 use signals::MAX_CYCLES;
 use signals::Outcome;
+use signals::Payload;
 use signals::Refusal;
 
 // One cycle more than a trace may hold.
 const TOO_MANY: usize = MAX_CYCLES + 1;
+
+// One FIFO more than a chain may have.
+const TOO_LONG: usize = MAX_FIFOS + 1;
 
 // The cycles of the run with a clear.
 const WITH_CLEAR: usize = 7;
@@ -32,14 +39,46 @@ fn print_refused(why: Refusal) {
     io::write_all(STDOUT_FILENO, b"\n");
 }
 
-// Asks for a new FIFO of a depth.
-fn run_depth(depth: usize) {
-    print_case(b"depth ", depth);
-    let outcome = Fifo::new(depth).outcome;
+fn print_outcome(outcome: Outcome) {
     match outcome {
         Outcome::Accepted => print_accepted(),
         Outcome::Refused(why) => print_refused(why),
     }
+}
+
+// Asks for a new FIFO of a depth.
+fn run_depth(depth: usize) {
+    print_case(b"depth ", depth);
+    let outcome = Fifo::new(depth).outcome;
+    print_outcome(outcome);
+}
+
+// Steps a FIFO that is handed in with a depth.
+fn run_handed_in_depth(depth: usize) {
+    print_case(b"handed-in depth ", depth);
+    let mut fifo = Fifo::new(2).fifo;
+    fifo.depth = depth;
+    let offer = Payload { data: 1, strb: 15 };
+    let outcome = fifo.step(true, offer, true, false).outcome;
+    print_outcome(outcome);
+}
+
+// Asks for a new chain of FIFOs of these depths.
+fn run_chain(of: &[u8], depths: &[usize]) {
+    print_case(b"FIFOs ", depths.len());
+    io::write_all(STDOUT_FILENO, of);
+    let outcome = Chain::new(depths).outcome;
+    print_outcome(outcome);
+}
+
+// Steps a chain that is handed in with a number of FIFOs.
+fn run_handed_in_chain(count: usize) {
+    print_case(b"handed-in FIFOs ", count);
+    let mut chain = Chain::new(&[MAX_DEPTH; MAX_FIFOS]).chain;
+    chain.count = count;
+    let offer = Payload { data: 1, strb: 15 };
+    let outcome = chain.step(true, offer, true, false).outcome;
+    print_outcome(outcome);
 }
 
 // Has a stream's trace checked.
@@ -70,10 +109,7 @@ fn run_burst(seen: u32, control: &[u8], data: &[u32]) {
     let mut monitor = Monitor::fresh(false);
     monitor.cycles = seen;
     let outcome = monitor.fed(control, data).outcome;
-    match outcome {
-        Outcome::Accepted => print_accepted(),
-        Outcome::Refused(why) => print_refused(why),
-    }
+    print_outcome(outcome);
 }
 
 // A cycle of a trace, as a line of a bench text has it.
@@ -96,10 +132,7 @@ fn run_clear() {
     let outcome = chain
         .run(&control, &data, &sink, &mut out_control, &mut out_data)
         .outcome;
-    match outcome {
-        Outcome::Accepted => print_accepted(),
-        Outcome::Refused(why) => print_refused(why),
-    }
+    print_outcome(outcome);
     print_cycle(out_control[0], out_data[0]);
     print_cycle(out_control[1], out_data[1]);
     print_cycle(out_control[2], out_data[2]);
@@ -109,12 +142,46 @@ fn run_clear() {
     print_cycle(out_control[6], out_data[6]);
 }
 
-fn main() {
+// FIFOs of legal depths, then of illegal ones: new ones, and ones that are handed in.
+fn run_depths() {
     run_depth(2);
     run_depth(16);
+    run_depth(18);
+    run_depth(64);
     run_depth(0);
     run_depth(3);
-    run_depth(18);
+    run_depth(17);
+    run_depth(65);
+    run_depth(66);
+    run_handed_in_depth(18);
+    run_handed_in_depth(64);
+    run_handed_in_depth(17);
+    run_handed_in_depth(65);
+    run_handed_in_depth(66);
+}
+
+// Chains at the limits: new ones, and ones that are handed in.
+fn run_chains() {
+    let deep = [64; TOO_LONG];
+    run_chain(b" of depth 64", &deep[..MAX_FIFOS]);
+    run_chain(
+        b" of depths 2 to 64",
+        &[2, 64, 4, 62, 16, 18, 32, 34, 2, 2, 64, 64, 8, 48, 6, 10],
+    );
+    run_chain(b" of depth 64", &deep);
+    run_chain(b" of depth 3", &[3; TOO_LONG]);
+    run_chain(b"", &deep[..0]);
+    run_chain(
+        b", the last of depth 66",
+        &[2, 2, 2, 2, 2, 2, 2, 2, 2, 2, 2, 2, 2, 2, 2, 66],
+    );
+    run_handed_in_chain(16);
+    run_handed_in_chain(17);
+}
+
+fn main() {
+    run_depths();
+    run_chains();
     let control = [0u8; TOO_MANY];
     let words = [0u32; TOO_MANY];
     run_stream(&control[..MAX_CYCLES], &words[..MAX_CYCLES]);

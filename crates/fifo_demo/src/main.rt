@@ -122,9 +122,13 @@ fn refused(f: Fifo) {
 fn main() {
     new(2);
     new(16);
+    new(18);
+    new(64);
     new(0);
     new(3);
-    new(18);
+    new(17);
+    new(65);
+    new(66);
     let f = new(4);
     let f = filled(f);
     let f = drained(f);

@@ -20,14 +20,22 @@ pub fn payload(random: &Random) -> Payload {
     payload
 }
 
+/// A legal depth: a small one, whose ring is soon full and gone around, one at an edge, or any.
 pub fn legal_depth(random: &Random) -> usize {
-    2 * (1 + random.below(MAX_DEPTH / 2))
+    match random.below(4) {
+        0 => random.pick(&[2, 4]),
+        1 => random.pick(&[16, 18, MAX_DEPTH - 2, MAX_DEPTH]),
+        2 => 2 * (1 + random.below(8)),
+        _ => 2 * (1 + random.below(MAX_DEPTH / 2)),
+    }
 }
 
 pub fn any_depth(random: &Random) -> usize {
-    match random.below(4) {
-        0 => random.pick(&[0, 1, 15, 17, 18, 256, 1 << 32, usize::MAX - 1, usize::MAX]),
-        1 => random.below(20),
+    let past = MAX_DEPTH + 1;
+    match random.below(5) {
+        0 => random.pick(&[0, 1, 3, 17, past - 2, past, past + 1]),
+        1 => random.pick(&[256, 1 << 32, usize::MAX - 1, usize::MAX]),
+        2 => random.below(past + 5),
         _ => legal_depth(random),
     }
 }
@@ -58,12 +66,17 @@ pub fn filled_fifo(random: &Random, depth: usize, oldest: usize, count: usize) -
 
 /// Breaks one field of a FIFO's form, or a strobe in any slot, held or not.
 pub fn damage_fifo(random: &Random, fifo: &mut Fifo) {
-    let depth = fifo.depth;
+    let (depth, past) = (fifo.depth, MAX_DEPTH + 1);
     match random.below(4) {
-        0 => fifo.depth = random.pick(&[0, 1, depth - 1, depth + 1, 17, 18, usize::MAX]),
-        1 => fifo.count = random.pick(&[depth + 1, 17, usize::MAX, fifo.count]),
-        2 => fifo.oldest = random.pick(&[depth, depth + 1, 16, usize::MAX, depth - 1]),
-        _ => fifo.slots[random.below(MAX_DEPTH)].strb = random.pick(&[15, 16, 17, 255]),
+        0 => {
+            fifo.depth = random.pick(&[0, 1, depth - 1, depth + 1, 17, past, past + 1, usize::MAX])
+        }
+        1 => fifo.count = random.pick(&[depth + 1, past, usize::MAX, fifo.count]),
+        2 => fifo.oldest = random.pick(&[depth, depth + 1, MAX_DEPTH, usize::MAX, depth - 1]),
+        _ => {
+            let at = random.below(random.pick(&[depth, MAX_DEPTH]));
+            fifo.slots[at].strb = random.pick(&[15, 16, 17, 255]);
+        }
     }
 }
 
@@ -85,12 +98,16 @@ pub fn well_chain(random: &Random) -> Chain {
     Chain { count, fifos }
 }
 
-/// Breaks a chain's count, or one of its FIFOs, used or not.
+/// Breaks a chain's count, once in a while with every FIFO well-formed, or one of its FIFOs, used or not.
 pub fn any_chain(random: &Random) -> Chain {
     let mut chain = well_chain(random);
     if random.once_in(4) {
         if random.once_in(4) {
-            chain.count = random.pick(&[0, 9, 10, usize::MAX, chain.count]);
+            let past = MAX_FIFOS + 1;
+            chain.count = random.pick(&[0, past, past + 1, usize::MAX, chain.count]);
+            if random.coin() {
+                chain.fifos = [(); MAX_FIFOS].map(|()| well_fifo(random));
+            }
         } else {
             let at = random.below(MAX_FIFOS.min(chain.count + 1));
             chain.fifos[at] = well_fifo(random);

@@ -1,9 +1,11 @@
 //! The comparisons can fail: each tells a call apart that is wrong in one thing.
 
 use crate::{addressgen, bench_text, chain, fifo, memory, monitor, mux, stream, strobes};
-use outside::answers::{Chain, ChainRun, Monitor, Payload, StreamAnswer, BROKEN, CLEAN};
+use outside::answers::{
+    Chain, ChainRun, Fifo, Monitor, Payload, StreamAnswer, BROKEN, CLEAN, MAX_DEPTH, MAX_FIFOS,
+};
 use outside::models::chain::Offered;
-use outside::models::fifo::NOTHING;
+use outside::models::fifo::{legal_depth, NOTHING};
 use outside::models::stream::{check_stream_by, Reading, RULES};
 use outside::random::{differ, Random};
 use outside::{linked, models, states};
@@ -175,13 +177,216 @@ fn held_payloads_shifted() {
     });
 }
 
+/// Moves a payload of the FIFO that is handed back, by the one that was given.
+type Misplaced = fn(&Fifo, &mut Fifo);
+
+#[test]
+fn a_ring_of_64_that_wraps_at_16() {
+    let wrong: [Misplaced; 2] = [
+        // In the place of the oldest, after another has left.
+        |given, next| {
+            if next.oldest != given.oldest {
+                next.oldest %= 16;
+            }
+        },
+        // In the place of one that joins.
+        |given, next| {
+            let end = (next.oldest + next.count + MAX_DEPTH - 1) % MAX_DEPTH;
+            if next.slots[end] != given.slots[end] {
+                next.slots[end % 16] = next.slots[end];
+                next.slots[end] = given.slots[end];
+            }
+        },
+    ];
+    for misplace in wrong {
+        let step = |fifo: Fifo, valid, payload, sink, clear| {
+            let mut stepped = linked::fifo_step(fifo, valid, payload, sink, clear);
+            if fifo.depth == MAX_DEPTH && stepped.refusal == 0 {
+                misplace(&fifo, &mut stepped.next);
+            }
+            stepped
+        };
+        differs(|random| fifo::compare(random, step));
+        differs(|random| fifo::compare_places(random, step));
+        let misplace_all = |given: &Chain, next: &mut Chain| {
+            for (fifo, given) in next.fifos.iter_mut().zip(&given.fifos) {
+                if given.depth == MAX_DEPTH {
+                    misplace(given, fifo);
+                }
+            }
+        };
+        differs(|random| {
+            let kept = states::well_chain(random);
+            chain::compare_step(random, kept, |chain, valid, payload, sink, clear| {
+                let mut stepped = linked::chain_step(chain, valid, payload, sink, clear);
+                if stepped.refusal == 0 {
+                    misplace_all(&chain, &mut stepped.next);
+                }
+                stepped
+            })
+        });
+        run_differs(|chain, offered, out_control, out_data| {
+            let mut ran = linked::chain_run(chain, offered, out_control, out_data);
+            if ran.refusal == 0 {
+                misplace_all(&chain, &mut ran.next);
+            }
+            ran
+        });
+    }
+}
+
+/// The depths that a wrong program accepts.
+const OTHER_DEPTHS: [fn(usize) -> bool; 5] = [
+    |depth| legal_depth(depth) && depth <= 16,
+    |depth| legal_depth(depth) && depth <= 62,
+    |depth| legal_depth(depth) || depth == 66,
+    |depth| legal_depth(depth) || depth == 65,
+    |depth| legal_depth(depth) || depth == 17,
+];
+
+/// A depth that the right calls accept where a program accepts this one, and refuse where it does not.
+fn passed_depth(accepts: fn(usize) -> bool, depth: usize) -> usize {
+    match accepts(depth) {
+        true if legal_depth(depth) => depth,
+        true => MAX_DEPTH,
+        false => 0,
+    }
+}
+
+#[test]
+fn other_depths_of_new_ones() {
+    for accepts in OTHER_DEPTHS {
+        differs(|random| {
+            fifo::compare_new(random, |depth| {
+                let mut made = linked::fifo_new(passed_depth(accepts, depth));
+                if made.refusal == 0 {
+                    made.kept.depth = depth;
+                }
+                made
+            })
+        });
+        differs(|random| {
+            chain::compare_new(random, |depths| {
+                let passed = depths.iter().map(|&depth| passed_depth(accepts, depth));
+                let mut made = linked::chain_new(&passed.collect::<Vec<_>>());
+                if made.refusal == 0 {
+                    let fifos = made.kept.fifos.iter_mut().zip(depths);
+                    fifos.for_each(|(fifo, &depth)| fifo.depth = depth);
+                }
+                made
+            })
+        });
+    }
+}
+
+/// A step and a run that test a chain as `seen` makes it, and hand it back as `back` makes it, are told apart.
+fn form_differs(seen: impl Fn(&mut Chain), back: impl Fn(&Chain, &mut Chain)) {
+    differs(|random| {
+        let kept = states::any_chain(random);
+        chain::compare_step(random, kept, |chain, valid, payload, sink, clear| {
+            let mut other = chain;
+            seen(&mut other);
+            let mut stepped = linked::chain_step(other, valid, payload, sink, clear);
+            back(&chain, &mut stepped.next);
+            stepped
+        })
+    });
+    differs(|random| {
+        let kept = states::any_chain(random);
+        let offered = chain::offered(random);
+        chain::compare_run(
+            random,
+            kept,
+            &offered,
+            |chain, offered, out_control, out_data| {
+                let mut other = chain;
+                seen(&mut other);
+                let mut ran = linked::chain_run(other, offered, out_control, out_data);
+                back(&chain, &mut ran.next);
+                ran
+            },
+        )
+    });
+}
+
+#[test]
+fn other_depths_handed_in() {
+    for accepts in OTHER_DEPTHS {
+        let seen = |fifo: &mut Fifo| fifo.depth = passed_depth(accepts, fifo.depth);
+        differs(|random| {
+            fifo::compare_is_well(random, |mut fifo| {
+                seen(&mut fifo);
+                linked::fifo_is_well(fifo)
+            })
+        });
+        differs(|random| {
+            fifo::compare(random, |mut fifo, valid, payload, sink, clear| {
+                let depth = fifo.depth;
+                seen(&mut fifo);
+                let mut stepped = linked::fifo_step(fifo, valid, payload, sink, clear);
+                stepped.next.depth = depth;
+                stepped
+            })
+        });
+        form_differs(
+            |chain| chain.fifos.iter_mut().for_each(seen),
+            |chain, next| {
+                let fifos = next.fifos.iter_mut().zip(&chain.fifos);
+                fifos.for_each(|(fifo, given)| fifo.depth = given.depth);
+            },
+        );
+    }
+}
+
+#[test]
+fn other_longest_chains() {
+    for longest in [8, 15, 17] {
+        let passed = |count: usize| {
+            if count > longest {
+                0
+            } else {
+                count.min(MAX_FIFOS)
+            }
+        };
+        differs(|random| {
+            chain::compare_new(random, |depths| {
+                let mut made = linked::chain_new(&depths[..passed(depths.len())]);
+                if made.refusal == 0 {
+                    made.kept.count = depths.len();
+                }
+                made
+            })
+        });
+        form_differs(
+            |chain| chain.count = passed(chain.count),
+            |chain, next| next.count = chain.count,
+        );
+    }
+}
+
+#[test]
+fn depths_tried_before_their_count() {
+    // All of them, and the first sixteen.
+    for tried in [usize::MAX, MAX_FIFOS] {
+        differs(|random| {
+            chain::compare_new(random, |depths| {
+                let mut made = linked::chain_new(depths);
+                if !depths.iter().take(tried).all(|&depth| legal_depth(depth)) {
+                    made.refusal = 4;
+                }
+                made
+            })
+        });
+    }
+}
+
 #[test]
 fn a_refused_state_altered() {
     differs(|random| {
         fifo::compare(random, |fifo, valid, payload, sink, clear| {
             let mut stepped = linked::fifo_step(fifo, valid, payload, sink, clear);
             if stepped.refusal != 0 {
-                stepped.next.slots[15].data ^= 1;
+                stepped.next.slots[MAX_DEPTH - 1].data ^= 1;
             }
             stepped
         })
