@@ -1,6 +1,9 @@
 -- Laws that belong to no one function: those of the code, then those of demand 3.
 pub mod Used
 pub mod Walk
+pub mod Parts
+pub mod Row
+pub mod Laying
 pub mod Promising
 pub mod Filling
 pub mod Bytes

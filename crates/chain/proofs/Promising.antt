@@ -85,7 +85,7 @@ module _ (chain : Chain) (controls words sinks outControls outWords : List ℕ) 
 
   -- a run that was made
   pub run-made : (o : Outcome) (next : Chain) (exitControls exitWords : List ℕ) → Given o → accepts (refusalOf o) ≡ true
-      → Traced (queues (value chain)) controls words sinks outControls outWords next exitControls exitWords
+      → Traced (queues (value chain)) controls words sinks outControls outWords (value next) exitControls exitWords
       → Promised chain (runDone controls words sinks outControls outWords (record { outcome = o; next = next }) exitControls exitWords)
   run-made Accepted next exitControls exitWords g e t =
       accepted-promised chain (runDone controls words sinks outControls outWords (record { outcome = Accepted; next = next }) exitControls exitWords)

@@ -1,4 +1,4 @@
--- A run over a trace: after `i` cycles the chain is where the first `i` of them lead, and the outputs hold what they write,
+-- A run over a trace: after `i` cycles the line is where the first `i` of them lead, and the outputs hold what they write,
 -- then what stood there. One turn, over plain values. Assumes nothing.
 use mathlib.Core.Path.{_≡_, refl, sym, ap, ap₂, _∙_}
 use mathlib.Core.Bool.{Bool, true, false}
@@ -14,11 +14,9 @@ use Rattle.signals.specs.Stream.{Sample, sample}
 use Rattle.signals.proofs.Writing.{writes-one}
 use Rattle.fifo.specs.Queue.{Queue, isAny, shownAs}
 use Rattle.chain.specs.Cycles.{Cycle, shownIn, after, afterAll, outletIn, outletTrace}
-use Rattle.chain.specs.declared.Chain.{Chain}
-use Rattle.chain.specs.Calls.{well, isWell, queues, bit, byteOf, recorded, controlByte, dataWord}
-use Rattle.chain.specs.Promises.{value}
+use Rattle.chain.specs.Calls.{Value, well, isWell, queues, bit, byteOf, recorded, controlByte, dataWord}
 use Rattle.chain.specs.Cycling.{given, Sized, Traced}
-use Rattle.chain.proofs.Used.{well-queues}
+use Rattle.chain.proofs.Used.{well-row}
 use Rattle.chain.proofs.Bytes.{bit-reads, byte-reads, sample-reads}
 
 -- the cycle that three entries record
@@ -64,22 +62,22 @@ write-next f qs past c i out old x n h e v =
     let long : length made ≡ i = length-map (outletTrace qs past) f ∙ trace-length qs past ∙ n in
     writes-one made i old out long h e x ∙ rw (trace-next qs past c, map-append, v)
 
-pub record Tracing (qs : List Queue) (cycles : List Cycle) (oldControls oldWords : List ℕ) (chain : Chain) (i : ℕ) (controls words : List ℕ) : Type 0 where
-  pub at : value chain ≡ well (afterAll qs (take i cycles))
+pub record Tracing (qs : List Queue) (cycles : List Cycle) (oldControls oldWords : List ℕ) (line : Value) (i : ℕ) (controls words : List ℕ) : Type 0 where
+  pub at : line ≡ well (afterAll qs (take i cycles))
   pub writesControls : controls ≡ map controlByte (outletTrace qs (take i cycles)) ++ drop i oldControls
   pub writesWords : words ≡ map dataWord (outletTrace qs (take i cycles)) ++ drop i oldWords
 
-pub tracing-start : (chain : Chain) (cycles : List Cycle) (oldControls oldWords : List ℕ) → isWell (value chain) ≡ true
-    → Tracing (queues (value chain)) cycles oldControls oldWords chain 0 oldControls oldWords
-tracing-start chain cycles oldControls oldWords form = record { at = well-queues chain form; writesControls = refl; writesWords = refl }
+pub tracing-start : (line : Value) (cycles : List Cycle) (oldControls oldWords : List ℕ) → isWell line ≡ true
+    → Tracing (queues line) cycles oldControls oldWords line 0 oldControls oldWords
+tracing-start line cycles oldControls oldWords form = record { at = well-row line form; writesControls = refl; writesWords = refl }
 
-module _ (qs : List Queue) (cs ws ss oldControls oldWords : List ℕ) (chain : Chain) (i : ℕ) (controls words : List ℕ)
-    (sized : Sized cs ws ss oldControls oldWords) (w : Tracing qs (recorded cs ws ss) oldControls oldWords chain i controls words) where
-  -- one turn: a cycle that leaves the chain `next`, its outlet showing `valid` and `payload`
-  pub tracing-on : (next : Chain) (valid : Bool) (payload : Payload) (byte : ℕ) → i < length cs
+module _ (qs : List Queue) (cs ws ss oldControls oldWords : List ℕ) (line : Value) (i : ℕ) (controls words : List ℕ)
+    (sized : Sized cs ws ss oldControls oldWords) (w : Tracing qs (recorded cs ws ss) oldControls oldWords line i controls words) where
+  -- one turn: a cycle that leaves the line `next`, its outlet showing `valid` and `payload`
+  pub tracing-on : (next : Value) (valid : Bool) (payload : Payload) (byte : ℕ) → i < length cs
       → let this = recordedAs (getD cs i 0) (getD ws i 0) (getD ss i 0) in
-      value next ≡ well (after (queues (value chain)) this)
-      → valid ≡ isAny (shownIn (queues (value chain)) this) → payload ≡ shownAs (shownIn (queues (value chain)) this)
+      next ≡ well (after (queues line) this)
+      → valid ≡ isAny (shownIn (queues line) this) → payload ≡ shownAs (shownIn (queues line) this)
       → byte ≡ byteOf valid (this .sink) (this .clear) (payload .strb)
       → Tracing qs (recorded cs ws ss) oldControls oldWords next (i + 1) (set controls i byte) (set words i (payload .«data»))
   tracing-on next valid payload byte h leads shows-valid shows-payload b =
@@ -87,7 +85,7 @@ module _ (qs : List Queue) (cs ws ss oldControls oldWords : List ℕ) (chain : C
       let this = recordedAs (getD cs i 0) (getD ws i 0) (getD ss i 0) in
       let made : length past ≡ i = length-take-le i (recorded cs ws ss) (omega (arith, recorded-length cs ws ss (sized .sameWords) (sized .sameSinks))) in
       let grown : take (i + 1) (recorded cs ws ss) ≡ past ++ (this ∷ []) = rw (add-one i) (recorded-next i cs ws ss h (sized .sameWords) (sized .sameSinks)) in
-      let from : queues (value chain) ≡ afterAll qs past = ap queues (w .at) in
+      let from : queues line ≡ afterAll qs past = ap queues (w .at) in
       record {
         at = rw (grown, after-next qs past this, ← from) leads;
         writesControls =
@@ -96,7 +94,7 @@ module _ (qs : List Queue) (cs ws ss oldControls oldWords : List ℕ) (chain : C
             rw grown (write-next dataWord qs past this i words oldWords (payload .«data») made (omega (arith, sized .roomWords)) (w .writesWords) (rw (← from, shows-payload)));
       }
 
-  pub tracing-end : i ≡ length cs → Traced qs cs ws ss oldControls oldWords chain controls words
+  pub tracing-end : i ≡ length cs → Traced qs cs ws ss oldControls oldWords line controls words
   tracing-end e =
       let cycles = recorded cs ws ss in
       let long = recorded-length cs ws ss (sized .sameWords) (sized .sameSinks) in
@@ -111,11 +109,11 @@ module _ (qs : List Queue) (cs ws ss oldControls oldWords : List ℕ) (chain : C
       }
 
 -- what a run over a trace of one cycle leaves and writes is that cycle's
-pub record TracedOne (qs : List Queue) (c : Cycle) (back : Chain) (control word : ℕ) : Type 0 where
-  pub next : value back ≡ well (after qs c)
+pub record TracedOne (qs : List Queue) (c : Cycle) (back : Value) (control word : ℕ) : Type 0 where
+  pub next : back ≡ well (after qs c)
   pub shows : sample control word ≡ outletIn qs c
 
-pub traced-one : (qs : List Queue) (valid : Bool) (payload : Payload) (sink clear : Bool) (back : Chain) (exitControls exitWords : List ℕ)
+pub traced-one : (qs : List Queue) (valid : Bool) (payload : Payload) (sink clear : Bool) (back : Value) (exitControls exitWords : List ℕ)
     → Traced qs (byteOf valid false clear (payload .strb) ∷ []) (payload .«data» ∷ []) (bit sink ∷ []) (0 ∷ []) (0 ∷ []) back exitControls exitWords
     → TracedOne qs (given valid payload sink clear) back (getD exitControls 0 0) (getD exitWords 0 0)
 traced-one qs valid payload sink clear back exitControls exitWords t =

@@ -80,12 +80,10 @@ pub value-uncounted : (chain : Chain) → legalCount (chain .count) ≡ false �
 unfolding value
 value-uncounted chain e = rw e
 
-pub well-queues : (chain : Chain) → isWell (value chain) ≡ true → value chain ≡ well (queues (value chain))
-well-queues chain e = is-row (value chain) e
-  where
-    is-row : (v : Value) → isWell v ≡ true → v ≡ well (queues v)
-    is-row ill e = absurd (false≢true e)
-    is-row (well qs) e = refl
+-- a value that has its form is that of its row
+pub well-row : (v : Value) → isWell v ≡ true → v ≡ well (queues v)
+well-row ill e = absurd (false≢true e)
+well-row (well qs) e = refl
 
 -- what is known of a chain that has its form
 pub record Formed (chain : Chain) : Type 0 where
@@ -93,17 +91,18 @@ pub record Formed (chain : Chain) : Type 0 where
   pub most : chain .count ≤ maxFifos
   pub row : lineOf (valuesFrom (chain .fifos) 0 (chain .count)) ≡ well (queues (value chain))
 
+pub legal-count : (chain : Chain) → isWell (value chain) ≡ true → legalCount (chain .count) ≡ true
+legal-count chain e = ⊎-elim (λ l. l) (λ n. absurd (false≢true (sym (ap isWell (value-uncounted chain n)) ∙ e))) (either (legalCount (chain .count)))
+
 pub formed : (chain : Chain) → isWell (value chain) ≡ true → Formed chain
-formed chain e = ⊎-elim counted (λ n. absurd (false≢true (sym (ap isWell (value-uncounted chain n)) ∙ e))) (either (legalCount (chain .count)))
-  where
-    counted : legalCount (chain .count) ≡ true → Formed chain
-    counted l =
-        let b = both (leb 1 (chain .count)) (leb (chain .count) maxFifos) l in
-        record {
-          some = leb-true 1 (chain .count) (b .0);
-          most = leb-true (chain .count) maxFifos (b .1);
-          row = sym (value-used chain l) ∙ well-queues chain e;
-        }
+formed chain e =
+    let l = legal-count chain e in
+    let b = both (leb 1 (chain .count)) (leb (chain .count) maxFifos) l in
+    record {
+      some = leb-true 1 (chain .count) (b .0);
+      most = leb-true (chain .count) maxFifos (b .1);
+      row = sym (value-used chain l) ∙ well-row (value chain) e;
+    }
 
 -- and a chain of a legal count whose used FIFOs make a row has that row for its value
 pub row-value : (chain : Chain) (qs : List queue.Queue) → 1 ≤ chain .count → chain .count ≤ maxFifos

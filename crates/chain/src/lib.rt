@@ -5,6 +5,7 @@
 mod cycle;
 mod empty;
 mod form;
+mod laid;
 mod trace;
 
 ghost use mathlib.Core.Path.{_≡_};

@@ -36,6 +36,9 @@ sum-once : (f : Fifo) → Form f → (count : ℕ) → count ≤ capacity (queue
 sum-once f form count most = omega (arith, form .oldest, capacity-most (queueOf f))
 
 -- the numbers are those of the slots
+pub depth-within : (f : Fifo) → inRange f ≡ true → f .depth ≤ maxDepth
+depth-within f e = depth-most (f .depth) (form-of f e .depth)
+
 pub oldest-within : (f : Fifo) → inRange f ≡ true → f .oldest < maxDepth
 oldest-within f e = let form = form-of f e in omega (arith, form .oldest, depth-most (f .depth) (form .depth))
 
@@ -53,15 +56,13 @@ every-place f e =
       held = λ i below. ring-at (f .slots) (f .depth) (f .oldest) (f .count) i (form .oldest) below;
     }
 
--- a place up to the end has its slot within the slots
+-- a place up to the end has its slot in the ring, and so within the slots
+pub place-below : (f : Fifo) (count : ℕ) → inRange f ≡ true → count ≤ f .count → wrapped (f .depth) (f .oldest + count) < f .depth
+place-below f count e most =
+    let form = form-of f e in wrapped-below (f .depth) (f .oldest) count (sum-once f form count (omega (arith, form .count)))
+
 pub place-within : (f : Fifo) (count : ℕ) → inRange f ≡ true → count ≤ f .count → wrapped (f .depth) (f .oldest + count) < maxDepth
-place-within f count e most =
-    let form = form-of f e in
-    omega (
-      arith,
-      wrapped-below (f .depth) (f .oldest) count (sum-once f form count (omega (arith, form .count))),
-      depth-most (f .depth) (form .depth),
-    )
+place-within f count e most = omega (arith, place-below f count e most, depth-within f e)
 
 in-range : (f : Fifo) → Form f → inRange f ≡ true
 unfolding inRange
@@ -119,6 +120,9 @@ trusted-well f q e = by-test (inRange f) (queueOf f) e
     by-test true r e = (refl, (cc))
     by-test false r e = absurd (clash cc)
 
+pub trusted-range : (f : Fifo) (q : Queue) → trusted f ≡ well q → inRange f ≡ true
+trusted-range f q e = trusted-well f q e .0
+
 -- nothing is held, wherever the next is to lie
 pub count-0-empty : (depth oldest : ℕ) (slots : List Payload) → legalDepth depth ≡ true → oldest < depth
     → trusted (record { depth = depth; count = 0; oldest = oldest; slots = slots }) ≡ well (empty depth)
@@ -162,13 +166,12 @@ abbrev pub afterPush : Fifo → Payload → Fifo
 afterPush f p =
     record { depth = f .depth; count = f .count + 1; oldest = f .oldest; slots = set (f .slots) (wrapped (f .depth) (f .oldest + f .count)) p }
 
-push-joins-end : (f : Fifo) (p : Payload) → inRange f ≡ true → length (f .slots) ≡ maxDepth → ready (queueOf f) ≡ true
+push-joins-end : (f : Fifo) (p : Payload) → inRange f ≡ true → f .depth ≤ length (f .slots) → ready (queueOf f) ≡ true
     → trusted (afterPush f p) ≡ well (record { depth = f .depth; held = queueOf f .held ++ (p ∷ []) })
 push-joins-end f p e wide room =
     let form = form-of f e in
     let below : f .count < capacity (queueOf f) = ltb-true _ _ (sym (ready-count f) ∙ room) in
     let fits = capacity-most (queueOf f) in
-    let most = depth-most (f .depth) (form .depth) in
     trusted-form (afterPush f p) (record { depth = form .depth; oldest = form .oldest; count = omega arith })
     ∙ ap (λ (l : List Payload). well (record { depth = f .depth; held = l }))
     (rw (add-one (f .count)) (store-joins-end (f .slots) (f .depth) (f .oldest) (f .count) p (omega arith) (form .oldest) (omega arith)))
@@ -181,6 +184,10 @@ module _ (f popped : Fifo) (sink : Bool) (pops : trusted popped ≡ well (popQue
   -- the numbers stay in range
   pub pop-in-range : inRange popped ≡ true
   pop-in-range = trusted-well popped (popQueue (queueOf f) sink) pops .0
+
+  -- the depth stays
+  pub pop-depth : popped .depth ≡ f .depth
+  pop-depth = ap (λ (q : Queue). q .depth) (trusted-well popped (popQueue (queueOf f) sink) pops .1)
 
   -- what had room has room
   pop-keeps-room : ready (queueOf f) ≡ true → ready (queueOf popped) ≡ true
@@ -210,7 +217,7 @@ module _ (f popped : Fifo) (sink : Bool) (pops : trusted popped ≡ well (popQue
         by-tests false true = refl
         by-tests false false = refl
 
-    pub push-makes-next : length (popped .slots) ≡ maxDepth → (offer && ready (queueOf f)) ≡ true
+    pub push-makes-next : popped .depth ≤ length (popped .slots) → (offer && ready (queueOf f)) ≡ true
         → trusted (afterPush popped p) ≡ well (next (queueOf f) (when offer (p ∷ [])) sink)
     push-makes-next wide joins =
         push-joins-end popped p pop-in-range wide (pop-keeps-room (both offer (ready (queueOf f)) joins .1)) ∙ rw joins at offered-joins

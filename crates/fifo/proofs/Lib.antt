@@ -1,8 +1,10 @@
--- Laws that belong to no one function. Users of the crate need `Stepping` and `Some`.
+-- Laws that belong to no one function. Users of the crate need `Stepping`, `Lending` and `Some`.
 pub mod Depths
 pub mod Places
 pub mod Slots
 pub mod Form
+pub mod LentSlots
 pub mod Strobes
 pub mod Stepping
+pub mod Lending
 pub mod Some

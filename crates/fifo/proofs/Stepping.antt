@@ -1,5 +1,5 @@
--- What a user of `step_trusted` knows of a FIFO that was looked at once (`value f ≡ well q`): it goes on having its whole
--- form, since legal strobes stay legal, so the step's promise over the numbers is the one over the value. Assumes nothing.
+-- A step's answer is the rule's, in a FIFO and in lent memory. One that was looked at once (`value f ≡ well q`) goes on having its whole
+-- form, since legal strobes stay legal, so that the promise over the numbers is the one over the value. Assumes nothing.
 use Prim.Native.Nat.{ℕ}
 use mathlib.Core.Bool.{Bool, true, false, cond, false≢true}
 use mathlib.Core.List.{List, [], _∷_}
@@ -15,9 +15,11 @@ use Rattle.signals.specs.Payloads.{zeros, legalStrb}
 use Rattle.signals.proofs.Bools.{either}
 use Rattle.fifo.specs.declared.Fifo.{Fifo}
 use Rattle.fifo.specs.declared.Stepped.{Stepped}
+use Rattle.fifo.specs.declared.Pointers.{Pointers}
+use Rattle.fifo.specs.declared.SteppedIn.{SteppedIn}
 use Rattle.fifo.specs.Queue.{Queue, Value, well, readyOf, Answer, refused, cleared, cycled, stepGrounds, stepBy, stepOf, when, isAny, oldest, shown, shownAs, ready, next, emptied, legalStrbs}
 use Rattle.fifo.specs.Ring.{trusted, value, strobesChecked}
-use Rattle.fifo.specs.Promises.{Steps, answered}
+use Rattle.fifo.specs.Promises.{Steps, answered, trustedIn, StaysPast, StepsIn, answeredIn}
 use Rattle.fifo.proofs.Strobes.{legal-one, legal-when, shown-payload-legal, next-legal, empty-legal, checked-legal, trusted-of-value}
 
 -- what a FIFO shows, offered to the next one, is what it shows
@@ -37,7 +39,7 @@ pub step-legal : (q : Queue) (offer sink clear : Bool) (p : Payload) → legalSt
 unfolding stepOf
 step-legal q offer sink clear p a = rw a
 
-step-refused : (v : Value) (offer sink clear : Bool) (p : Payload) (number : ℕ) → firstOf (stepGrounds v p) ≡ some number
+pub step-refused : (v : Value) (offer sink clear : Bool) (p : Payload) (number : ℕ) → firstOf (stepGrounds v p) ≡ some number
     → stepOf v offer p sink clear ≡ refused number v
 unfolding stepOf
 step-refused v offer sink clear p number e = ap (λ (o : Option ℕ). stepBy o v offer p sink clear) e
@@ -56,27 +58,55 @@ pub refusal-steps : (valueOf : Fifo → Value) (f : Fifo) (offer sink clear : Bo
 refusal-steps valueOf f offer sink clear p why r given e =
     rw e (record { answer = sym (step-refused (valueOf f) offer sink clear p (numberOf why) given); kept = λ _. refl })
 
--- and so is its cycle
-pub cycle-steps : (f : Fifo) (q : Queue) (offer sink clear : Bool) (p : Payload) (r : Stepped)
-    → trusted f ≡ well q → legalStrb p ≡ true
-    → answered trusted r ≡ cond clear (cleared q) (cycled q (when offer (p ∷ [])) sink)
-    → Steps trusted f offer p sink clear r
-cycle-steps f q offer sink clear p r e legal cycle =
-    record {
-      answer = cycle ∙ sym (ap (λ (v : Value). stepOf v offer p sink clear) e ∙ step-legal q offer sink clear p legal);
-      kept = λ n. absurd (false≢true (sym n ∙ ap (λ (a : Answer). accepts (a .refusal)) cycle ∙ accepted clear));
-    }
+-- and so is its cycle, which is accepted
+pub cycle-answers : (v : Value) (q : Queue) (offer sink clear : Bool) (p : Payload) (a : Answer)
+    → v ≡ well q → legalStrb p ≡ true → a ≡ cond clear (cleared q) (cycled q (when offer (p ∷ [])) sink)
+    → (a ≡ stepOf v offer p sink clear) × (accepts (a .refusal) ≡ true)
+cycle-answers v q offer sink clear p a e legal cycle = (
+  cycle ∙ sym (ap (λ (w : Value). stepOf w offer p sink clear) e ∙ step-legal q offer sink clear p legal),
+  ap (λ (b : Answer). accepts (b .refusal)) cycle ∙ accepted clear,
+)
   where
     accepted : (c : Bool) → accepts (cond c (cleared q) (cycled q (when offer (p ∷ [])) sink) .refusal) ≡ true
     accepted true = refl
     accepted false = refl
 
--- an answer with a legal payload, and a next queue with legal strobes
-record Legal (a : Answer) : Type 0 where
-  payload : legalStrb (a .payload) ≡ true
-  next : strobesChecked (a .next) ≡ a .next
+pub cycle-steps : (f : Fifo) (q : Queue) (offer sink clear : Bool) (p : Payload) (r : Stepped)
+    → trusted f ≡ well q → legalStrb p ≡ true
+    → answered trusted r ≡ cond clear (cleared q) (cycled q (when offer (p ∷ [])) sink)
+    → Steps trusted f offer p sink clear r
+cycle-steps f q offer sink clear p r e legal cycle =
+    let by-rule = cycle-answers (trusted f) q offer sink clear p (answered trusted r) e legal cycle in
+    record { answer = by-rule .0; kept = λ n. absurd (false≢true (sym n ∙ by-rule .1)) }
 
-answer-legal : (q : Queue) (offer sink clear : Bool) (p : Payload) → legalStrbs (q .held) ≡ true → Legal (stepOf (well q) offer p sink clear)
+-- the same in lent memory
+pub refusal-steps-in : (p : Pointers) (words strbs : List ℕ) (offer sink clear : Bool) (payload : Payload) (why : Refusal) (r : SteppedIn)
+    → firstOf (stepGrounds (trustedIn p words strbs) payload) ≡ some (numberOf why)
+    → r ≡ record { outcome = Refused why; ready = false; valid = false; payload = zeros; next = p }
+    → StepsIn p words strbs offer payload sink clear r words strbs
+refusal-steps-in p words strbs offer sink clear payload why r given e =
+    rw e (record {
+      answer = sym (step-refused (trustedIn p words strbs) offer sink clear payload (numberOf why) given);
+      past = record { of-words = refl; of-strbs = refl };
+      kept = λ _. (refl, (refl, refl));
+    })
+
+pub cycle-steps-in : (p : Pointers) (words strbs : List ℕ) (q : Queue) (offer sink clear : Bool) (payload : Payload) (r : SteppedIn)
+    (afterWords afterStrbs : List ℕ)
+    → trustedIn p words strbs ≡ well q → legalStrb payload ≡ true
+    → answeredIn r afterWords afterStrbs ≡ cond clear (cleared q) (cycled q (when offer (payload ∷ [])) sink)
+    → StaysPast (p .depth) words strbs afterWords afterStrbs
+    → StepsIn p words strbs offer payload sink clear r afterWords afterStrbs
+cycle-steps-in p words strbs q offer sink clear payload r afterWords afterStrbs e legal cycle past =
+    let by-rule = cycle-answers (trustedIn p words strbs) q offer sink clear payload (answeredIn r afterWords afterStrbs) e legal cycle in
+    record { answer = by-rule .0; past = past; kept = λ n. absurd (false≢true (sym n ∙ by-rule .1)) }
+
+-- an answer with a legal payload, and a next queue with legal strobes
+pub record Legal (a : Answer) : Type 0 where
+  pub payload : legalStrb (a .payload) ≡ true
+  pub next : strobesChecked (a .next) ≡ a .next
+
+pub answer-legal : (q : Queue) (offer sink clear : Bool) (p : Payload) → legalStrbs (q .held) ≡ true → Legal (stepOf (well q) offer p sink clear)
 unfolding stepOf
 answer-legal q offer sink clear p a =
     ⊎-elim (λ e. rw e (by-clear e clear)) (λ e. rw e (record { payload = refl; next = checked-legal q a })) (either (legalStrb p))
@@ -109,38 +139,3 @@ module _ (f : Fifo) (q : Queue) (offer : Bool) (p : Payload) (sink clear : Bool)
         answer = rw (same-value, before) by-rule;
         kept = steps .kept;
       }
-
-  -- whatever it answers, the payload shown has a legal strobe
-  pub payload-legal : legalStrb (r .payload) ≡ true
-  payload-legal = legal .payload
-
--- a step's answer, part by part
-pub record Answers (r : Stepped) (a : Answer) : Type 0 where
-  pub refusal : refusalOf (r .outcome) ≡ a .refusal
-  pub ready : r .ready ≡ a .ready
-  pub valid : r .valid ≡ a .valid
-  pub payload : r .payload ≡ a .payload
-  pub next : value (r .next) ≡ a .next
-
-pub answers : (r : Stepped) (a : Answer) → answered value r ≡ a → Answers r a
-answers r a e =
-    record {
-      refusal = ap (λ (x : Answer). x .refusal) e;
-      ready = ap (λ (x : Answer). x .ready) e;
-      valid = ap (λ (x : Answer). x .valid) e;
-      payload = ap (λ (x : Answer). x .payload) e;
-      next = ap (λ (x : Answer). x .next) e;
-    }
-
--- a trusted step with a legal payload
-module _ (f : Fifo) (q : Queue) (offer : Bool) (p : Payload) (sink clear : Bool) (r : Stepped)
-    (before : value f ≡ well q) (legal : legalStrb p ≡ true) (steps : Steps trusted f offer p sink clear r) where
-  by-clear : answered value r ≡ cond clear (cleared q) (cycled q (when offer (p ∷ [])) sink)
-  by-clear =
-      rw before at (trusted-steps f q offer p sink clear r before steps .answer) ∙ step-legal q offer sink clear p legal
-
-  pub trusted-cycles : clear ≡ false → Answers r (cycled q (when offer (p ∷ [])) sink)
-  trusted-cycles e = answers r (cycled q (when offer (p ∷ [])) sink) (rw e at by-clear)
-
-  pub trusted-clears : clear ≡ true → Answers r (cleared q)
-  trusted-clears e = answers r (cleared q) (rw e at by-clear)

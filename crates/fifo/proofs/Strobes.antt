@@ -83,15 +83,15 @@ pub well-queue : (v : Value) → isWell v ≡ true → (q : Queue) × (v ≡ wel
 well-queue ill e = absurd (false≢true e)
 well-queue (well q) e = (q, refl)
 
--- a value is one by the numbers whose strobes are legal
+-- a value that passed the look at the strobes is one by the numbers whose strobes are legal
+pub checked-well : (v : Value) (q : Queue) → strobesChecked v ≡ well q → (v ≡ well q) × (legalStrbs (q .held) ≡ true)
+checked-well ill q e = absurd (clash cc)
+checked-well (well r) q e = by-test (legalStrbs (r .held)) refl e
+  where
+    by-test : (b : Bool) → legalStrbs (r .held) ≡ b → cond b (well r) ill ≡ well q → (well r ≡ well q) × (legalStrbs (q .held) ≡ true)
+    by-test true a e = let same : r ≡ q = cc in (e, ap (λ (s : Queue). legalStrbs (s .held)) (sym same) ∙ a)
+    by-test false a e = absurd (clash cc)
+
 pub trusted-of-value : (f : Fifo) (q : Queue) → value f ≡ well q → (trusted f ≡ well q) × (legalStrbs (q .held) ≡ true)
 unfolding value
-trusted-of-value f q e = by-value (trusted f) e
-  where
-    by-test : (b : Bool) (r : Queue) → legalStrbs (r .held) ≡ b → cond b (well r) ill ≡ well q → (well r ≡ well q) × (legalStrbs (q .held) ≡ true)
-    by-test true r a e = let same : r ≡ q = cc in (e, ap (λ (s : Queue). legalStrbs (s .held)) (sym same) ∙ a)
-    by-test false r a e = absurd (clash cc)
-
-    by-value : (v : Value) → strobesChecked v ≡ well q → (v ≡ well q) × (legalStrbs (q .held) ≡ true)
-    by-value ill e = absurd (clash cc)
-    by-value (well r) e = by-test (legalStrbs (r .held)) r refl e
+trusted-of-value f q e = checked-well (trusted f) q e

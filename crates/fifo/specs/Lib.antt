@@ -1,4 +1,6 @@
--- The definitions that the promises of `fifo` cite. Users of the crate need `Queue` and `Promises`; `Ring` is its own affair.
+-- The definitions that the promises of `fifo` cite. Users of the crate need `Queue` and `Promises`; `Ring` and
+-- `Memory` are its own affair.
 pub mod Queue
 pub mod Ring
+pub mod Memory
 pub mod Promises

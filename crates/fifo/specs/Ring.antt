@@ -9,6 +9,7 @@ use lib.Dec.{leb, ltb}
 use Rattle.signals.specs.declared.Payload.{Payload}
 use Rattle.signals.specs.Payloads.{zeros}
 use Rattle.fifo.specs.declared.Fifo.{Fifo}
+use Rattle.fifo.specs.declared.Pointers.{Pointers}
 use Rattle.fifo.specs.Queue.{Queue, Value, ill, well, capacity, legalDepth, legalStrbs}
 
 -- whether a place has not passed the end of the ring
@@ -28,6 +29,13 @@ PlaceIsRemainder =
 unfoldable pub ring : List Payload → (depth at n : ℕ) → List Payload
 ring slots depth at zero = []
 ring slots depth at (suc n) = getD slots at zeros ∷ ring slots depth (wrapped depth (at + 1)) n
+
+-- a FIFO but for its slots, and pointers with slots for them
+abbrev pub pointersOf : Fifo → Pointers
+pointersOf f = record { depth = f .depth; count = f .count; oldest = f .oldest }
+
+abbrev pub fifoWith : Pointers → (slots : List Payload) → Fifo
+fifoWith p slots = record { depth = p .depth; count = p .count; oldest = p .oldest; slots = slots }
 
 -- the queue in the slots, whether or not the numbers are in range
 abbrev pub queueOf : Fifo → Queue

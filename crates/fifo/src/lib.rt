@@ -2,6 +2,7 @@
 //
 // Writes out the FIFO of "The stage and the line" of document 01. The value of a FIFO is its depth and its payloads,
 // the oldest first (`specs/Queue.antt`); the ring that holds them (`specs/Ring.antt`) is nobody else's affair.
+mod memory;
 mod ring;
 
 ghost use mathlib.Core.Path.{_≡_};
@@ -31,6 +32,13 @@ pub struct Fifo {
     pub slots: [Payload; MAX_DEPTH],
 }
 
+// A FIFO but for its slots, which lie in lent memory.
+pub struct Pointers {
+    pub depth: usize,
+    pub count: usize,
+    pub oldest: usize,
+}
+
 pub struct NewFifo {
     pub outcome: Outcome,
     pub fifo: Fifo,
@@ -43,6 +51,15 @@ pub struct Stepped {
     pub valid: bool,
     pub payload: Payload,
     pub next: Fifo,
+}
+
+// What a step in lent memory shows, and the pointers after it.
+pub struct SteppedIn {
+    pub outcome: Outcome,
+    pub ready: bool,
+    pub valid: bool,
+    pub payload: Payload,
+    pub next: Pointers,
 }
 
 impl Fifo {
@@ -76,7 +93,7 @@ impl Fifo {
     pub fn is_ready(self) -> bool
         ensures { λ r. ⌜ r ≡ readyOf (trusted self) ⌝ }
     {
-        self.is_in_range() & self.has_room()
+        self.is_in_range() & self.pointers().has_room()
     }
 
     // One cycle of a FIFO that has its form; the held strobes are looked at first.
@@ -90,7 +107,7 @@ impl Fifo {
     }
 
     // One cycle of a FIFO whose held strobes are trusted: what is tested of its form takes constant time.
-    pub fn step_trusted(self, valid: bool, payload: Payload, sink: bool, clear: bool) -> Stepped
+    fn step_trusted(self, valid: bool, payload: Payload, sink: bool, clear: bool) -> Stepped
         ensures { λ r. ⌜ Steps trusted self valid payload sink clear r ⌝ }
     {
         let formed = self.is_in_range();
@@ -112,20 +129,21 @@ impl Fifo {
         if clear {
             return self.emptied().silent(Outcome::Accepted);
         }
+        let pointers = self.pointers();
         let count = self.count;
         let oldest = self.oldest;
-        let ready = self.has_room();
+        let ready = pointers.has_room();
         let mut slots = self.slots;
         every_slot(slots);
         let mut shown = Payload { data: 0, strb: 0 };
         if 0 < count {
             shown = slots[oldest];
         }
-        let left = self.popped(sink);
+        let left = pointers.popped(sink);
         let first = left.oldest;
         let mut held = left.count;
         if valid & ready {
-            let end = wrap(self.depth, first + held);
+            let end = wrap(left.depth, first + held);
             slots[end] = payload;
             held += 1;
         }
@@ -135,7 +153,7 @@ impl Fifo {
             valid: 0 < count,
             payload: shown,
             next: Fifo {
-                depth: self.depth,
+                depth: left.depth,
                 count: held,
                 oldest: first,
                 slots: slots,

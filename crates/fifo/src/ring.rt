@@ -3,19 +3,16 @@
 // A place in the ring is found by a comparison, and no held payload is moved.
 ghost use mathlib.Core.Path.{_≡_};
 ghost use mathlib.Core.Bool.{true, false, cond};
+ghost use mathlib.Core.List.{List, []};
 ghost use lib.ListN.{length};
+ghost use Rattle.signals.specs.declared.Payload.{Payload};
 ghost use Rattle.fifo.specs.Queue.{maxDepth, capacity, legalDepth, legalStrbs, well, empty, emptied, ready, rest};
-ghost use Rattle.fifo.specs.Ring.{wrapped, trusted, queueOf, inRange};
+ghost use Rattle.fifo.specs.Ring.{wrapped, pointersOf, fifoWith, trusted, queueOf, inRange};
 use super::Fifo;
 use super::MAX_DEPTH;
+use super::Pointers;
 use signals::MAX_STRB;
 use signals::Payload;
-
-// Where the payloads lie: `count` of them, in the slots from `oldest` on.
-pub(crate) struct Span {
-    pub oldest: usize,
-    pub count: usize,
-}
 
 // The slot at a place that has passed the end of the ring at most once: the one that a remainder would give, found by a comparison.
 pub(crate) fn wrap(depth: usize, place: usize) -> usize
@@ -52,18 +49,21 @@ impl Fifo {
         }
     }
 
-    // The most that it holds.
-    fn capacity(self) -> usize
-        ensures { λ r. ⌜ r ≡ capacity (queueOf self) ⌝ }
+    pub(crate) fn pointers(self) -> Pointers
+        ensures { λ r. ⌜ r ≡ pointersOf self ⌝ }
     {
-        self.depth
+        Pointers {
+            depth: self.depth,
+            count: self.count,
+            oldest: self.oldest,
+        }
     }
 
     // Whether its numbers are in range: its form but for the held strobes.
     pub(crate) fn is_in_range(self) -> bool
         ensures { λ r. ⌜ r ≡ inRange self ⌝ }
     {
-        is_legal_depth(self.depth) & ((self.oldest < self.depth) & (self.count <= self.capacity()))
+        self.pointers().is_in_range()
     }
 
     // Whether each held strobe is legal.
@@ -85,13 +85,6 @@ impl Fifo {
         true
     }
 
-    // Whether it holds fewer than its capacity.
-    pub(crate) fn has_room(self) -> bool
-        ensures { λ r. ⌜ r ≡ ready (queueOf self) ⌝ }
-    {
-        self.count < self.capacity()
-    }
-
     pub(crate) fn emptied(mut self) -> Fifo
         requires { ⌜ inRange self ≡ true ⌝ }
         ensures { λ r. ⌜ trusted r ≡ well (emptied (queueOf self)) ⌝ }
@@ -99,23 +92,56 @@ impl Fifo {
         self.count = 0;
         self
     }
+}
+
+// What the numbers say is said whatever the slots hold.
+impl Pointers {
+    // The most that it holds.
+    fn capacity(self) -> usize
+        ensures { λ r. ⌜ ((slots : List Payload) → r ≡ capacity (queueOf (fifoWith self slots))) ⌝ }
+    {
+        self.depth
+    }
+
+    // Whether the numbers are in range.
+    pub(crate) fn is_in_range(self) -> bool
+        ensures { λ r. ⌜ ((slots : List Payload) → r ≡ inRange (fifoWith self slots)) ⌝ }
+    {
+        is_legal_depth(self.depth) & ((self.oldest < self.depth) & (self.count <= self.capacity()))
+    }
+
+    // Whether it holds fewer than its capacity.
+    pub(crate) fn has_room(self) -> bool
+        ensures { λ r. ⌜ ((slots : List Payload) → r ≡ ready (queueOf (fifoWith self slots))) ⌝ }
+    {
+        self.count < self.capacity()
+    }
+
+    // None is held.
+    pub(crate) fn emptied(self) -> Pointers
+        ensures { λ r. ⌜ r ≡ record { depth = self .depth; count = 0; oldest = self .oldest } ⌝ }
+    {
+        Pointers {
+            depth: self.depth,
+            count: 0,
+            oldest: self.oldest,
+        }
+    }
 
     // Where the payloads lie after the oldest has left, which it does when the sink is ready.
-    pub(crate) fn popped(self, sink: bool) -> Span
-        requires { ⌜ inRange self ≡ true ⌝ }
-        ensures { λ r. ⌜ trusted (record { depth = self .depth; count = r .count; oldest = r .oldest; slots = self .slots }) ≡ well (record { depth = self .depth; held = cond sink (rest (queueOf self .held)) (queueOf self .held) }) ⌝ }
+    pub(crate) fn popped(self, sink: bool) -> Pointers
+        requires { ⌜ inRange (fifoWith self []) ≡ true ⌝ }
+        ensures { λ r. ⌜ ((slots : List Payload) → trusted (fifoWith r slots) ≡ well (record { depth = self .depth; held = cond sink (rest (queueOf (fifoWith self slots) .held)) (queueOf (fifoWith self slots) .held) })) ⌝ }
     {
         if sink & (0 < self.count) {
             let oldest = wrap(self.depth, self.oldest + 1);
             let count = self.count - 1;
-            return Span {
-                oldest: oldest,
+            return Pointers {
+                depth: self.depth,
                 count: count,
+                oldest: oldest,
             };
         }
-        Span {
-            oldest: self.oldest,
-            count: self.count,
-        }
+        self
     }
 }

@@ -88,13 +88,13 @@ sink-entry c = c .bit .ensures
 one : (c : tie.After-traced) →
     let a = c .before .before .before .before .before .before .before .before .before .before .before .args in
     let run = c .traced in
-    TracedOne (queues (value (a .t1))) (given (a .valid) (a .payload) (a .sink) (a .clear)) (run .result)
+    TracedOne (queues (value (a .t1))) (given (a .valid) (a .payload) (a .sink) (a .clear)) (value (run .result))
     (getD (run .last .1 .1 .1 .1 .0) 0 0)
     (getD (run .last .1 .1 .1 .1 .1 .0) 0 0)
 one c =
     let bits = c .before .before .before .before .before .before in
     let a = bits .before .before .before .before .before .args in
-    traced-one _ (a .valid) (a .payload) (a .sink) (a .clear) (c .traced .result) _ _ (rw (offer-byte (bits .before), sink-entry bits) at (c .traced .ensures))
+    traced-one _ (a .valid) (a .payload) (a .sink) (a .clear) (value (c .traced .result)) _ _ (rw (offer-byte (bits .before), sink-entry bits) at (c .traced .ensures))
 
 returns : tie.Need-returns
 returns c =

@@ -1,16 +1,19 @@
 -- `Fifo::cycle` meets its contract: the payload shown is at the position of the oldest, and the FIFO that is built is the one
 -- that a pop, and then a push of what is offered while ready, would leave, which is the rule's next queue. Assumes nothing.
-use Prim.Native.Nat.{_<_}
+use Prim.Native.Nat.{_≤_, _<_}
 use native.Mathlib.Omega.{arith}
 use mathlib.Core.Bool.{Bool, true, _&&_}
 use mathlib.Core.List.{[], _∷_}
 use mathlib.Core.Logic.{⊎-elim}
 use mathlib.Core.Path.{_≡_, sym, ap, _∙_}
 use borrow.Author.Needs.{needs}
+use lib.ListN.{length}
 use Rattle.fifo.specs.declared.Fifo.{Fifo}
+use Rattle.fifo.specs.declared.Pointers.{Pointers}
 use Rattle.fifo.specs.Queue.{well, ready, shown, shownAs, next, when, maxDepth}
-use Rattle.fifo.specs.Ring.{queueOf, inRange, trusted}
-use Rattle.fifo.proofs.Form.{oldest-within, count-within, place-within, shows-count, shows-oldest, shows-zeros, popQueue, pop-in-range, push-makes-next, no-push}
+use Rattle.fifo.specs.Ring.{fifoWith, queueOf, inRange, trusted}
+use Rattle.fifo.proofs.Form.{depth-within, oldest-within, count-within, place-within, shows-count, shows-oldest, shows-zeros, popQueue, pop-in-range, push-makes-next, no-push}
+use Rattle.fifo.proofs.LentSlots.{in-range-any}
 use Rattle.fifo.proofs.Stepping.{parts-cycle}
 use Rattle.fifo.proofs.Fifo.cycle.Statement.{statement}
 use Rattle.fifo.proofs.Fifo.cycle.Tie as tie
@@ -24,6 +27,9 @@ silent-requires c κs = search needs
 returns : tie.Need-returns
 returns c = rw (c .before .before .if1 .taken, c .silent .ensures, c .before .emptied .ensures)
 
+pointers-requires : tie.Need-pointers-requires
+pointers-requires c κs = search needs
+
 has-room-requires : tie.Need-has-room-requires
 has-room-requires c κs = search needs
 
@@ -32,11 +38,18 @@ every-slot-requires c κs = search needs
 
 -- the function's start, as seen from where the slots have been copied out
 abbrev start : tie.After-every-slot → tie.Start
-start c = c .before .before .before .before
+start c = c .before .before .before .before .before
+
+-- the pointers are the FIFO's
+abbrev pointers : tie.After-every-slot → Pointers
+pointers c = c .before .before .before .pointers .result
+
+same-fifo : (c : tie.After-every-slot) → fifoWith (pointers c) (start c .args .self .slots) ≡ start c .args .self
+same-fifo c = ap (λ (p : Pointers). fifoWith p (start c .args .self .slots)) (c .before .before .before .pointers .ensures)
 
 -- ready is that of the list at the cycle's start
 room : (c : tie.After-every-slot) → c .before .before .has-room .result ≡ ready (queueOf (start c .args .self))
-room c = c .before .before .has-room .ensures
+room c = c .before .before .has-room .ensures (start c .args .self .slots) ∙ ap (λ (f : Fifo). ready (queueOf f)) (same-fifo c)
 
 mul-shown : tie.Need-mul-shown
 mul-shown c = let a = start (c .before) in omega (arith, oldest-within (a .args .self) (a .pre))
@@ -51,19 +64,26 @@ shows c =
     ⊎-elim (λ w. w .2 ∙ sym (shows-oldest f (w .0 .taken))) (λ w. w .1 ∙ sym (shows-zeros f (w .0 .left))) (c .if2 .came)
 
 popped-requires : tie.Need-popped-requires
-popped-requires c κs = search needs
+popped-requires c κs =
+    let a = start (c .before) in
+    in-range-any (pointers (c .before)) [] (a .args .self .slots) ∙ ap inRange (same-fifo (c .before)) ∙ a .pre
 
 -- the FIFO from which the oldest has left where the sink is ready
 abbrev popped : tie.After-popped → Fifo
-popped c =
-    let f = start (c .before .before) .args .self in
-    record { depth = f .depth; count = c .popped .result .count; oldest = c .popped .result .oldest; slots = f .slots }
+popped c = fifoWith (c .popped .result) (start (c .before .before) .args .self .slots)
 
 pops : (c : tie.After-popped) → let a = start (c .before .before) .args in trusted (popped c) ≡ well (popQueue (queueOf (a .self)) (a .sink))
-pops c = c .popped .ensures
+pops c =
+    let copied = c .before .before in
+    let a = start copied .args in
+    c .popped .ensures (a .self .slots) ∙ ap (λ (f : Fifo). well (popQueue (queueOf f) (a .sink))) (same-fifo copied)
 
 in-range : (c : tie.After-popped) → inRange (popped c) ≡ true
 in-range c = let a = start (c .before .before) .args in pop-in-range (a .self) (popped c) (a .sink) (pops c)
+
+-- its ring has its slots
+fits : (c : tie.After-popped) → popped c .depth ≤ length (popped c .slots)
+fits c = omega (arith, depth-within (popped c) (in-range c), c .before .before .every-slot .ensures)
 
 add-wrap : tie.Need-add-wrap
 add-wrap c =
@@ -102,7 +122,7 @@ gives c =
     let joins = sym (ap (λ (b : Bool). a .valid && b) (room copied)) in
     ⊎-elim
     (λ w. rw (w .2, w .3, w .1 .ensures)
-    (push-makes-next (a .self) p (a .sink) leaves (a .valid) (a .payload) (copied .every-slot .ensures) (joins ∙ w .0 .taken)))
+    (push-makes-next (a .self) p (a .sink) leaves (a .valid) (a .payload) (fits (c .before)) (joins ∙ w .0 .taken)))
     (λ w. rw (w .1, w .2) (no-push (a .self) p (a .sink) leaves (a .valid) (a .payload) (joins ∙ w .0 .left)))
     (c .if3 .came)
 
@@ -110,7 +130,7 @@ returns-2 : tie.Need-returns-2
 returns-2 c =
     let copied = c .before .before .before in
     let a = start copied .args in
-    rw (copied .before .before .before .if1 .left)
+    rw (copied .before .before .before .before .if1 .left)
     (parts-cycle (queueOf (a .self)) (when (a .valid) (a .payload ∷ [])) (a .sink) _ _ _ _ (room copied) (sym (shows-count (a .self))) (shows (c .before .before)) (gives c))
 
 pub cycle-spec : {M : Type 1} → statement M
@@ -120,6 +140,7 @@ cycle-spec =
     emptied-requires
     silent-requires
     returns
+    pointers-requires
     has-room-requires
     every-slot-requires
     mul-shown
