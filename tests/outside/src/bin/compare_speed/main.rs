@@ -41,8 +41,8 @@ fn median(mut times: Vec<Duration>) -> Duration {
     times[times.len() / 2]
 }
 
-/// Prints the ratio of the medians, the two being timed in turn.
-fn compare(what: &str, mut proved: impl FnMut(), mut plain: impl FnMut()) {
+/// The medians of two that are timed in turn.
+fn medians(mut proved: impl FnMut(), mut plain: impl FnMut()) -> (Duration, Duration) {
     let once = time(3, &mut plain).max(Duration::from_nanos(1));
     let calls = (Duration::from_millis(4).as_nanos() / once.as_nanos()).clamp(1, 1_000) as u32;
     let (mut of_proved, mut of_plain) = (Vec::new(), Vec::new());
@@ -50,11 +50,19 @@ fn compare(what: &str, mut proved: impl FnMut(), mut plain: impl FnMut()) {
         of_proved.push(time(calls, &mut proved));
         of_plain.push(time(calls, &mut plain));
     }
-    let (proved, plain) = (median(of_proved), median(of_plain));
+    (median(of_proved), median(of_plain))
+}
+
+/// Prints the ratio of the medians, and the rates.
+fn print(what: &str, (proved, plain): (Duration, Duration)) {
     let ratio = proved.as_secs_f64() / plain.as_secs_f64();
     let rate = |time: Duration| CYCLES as f64 / time.as_secs_f64() / 1e6;
     let rates = [rate(proved), rate(plain)];
     println!("{ratio:5.2}   {what:<57} {:8.1} {:8.1}", rates[0], rates[1]);
+}
+
+fn compare(what: &str, proved: impl FnMut(), plain: impl FnMut()) {
+    print(what, medians(proved, plain));
 }
 
 type Trace = (Vec<u8>, Vec<u32>);
@@ -234,7 +242,8 @@ fn proved_run(chain: Chain, offered: &Offered, control: &mut [u8], data: &mut [u
     linked::chain_run(chain, offered, control, data).next
 }
 
-fn chain(what: &str, offered: Offered, depths: &[usize], one: Run, other: Run) {
+/// The medians of two runs, which give the same.
+fn runs(offered: Offered, depths: &[usize], one: Run, other: Run) -> (Duration, Duration) {
     let new = linked::chain_new(depths).kept;
     let mut out = (vec![0; CYCLES], vec![0; CYCLES]);
     let mut other_out = out.clone();
@@ -246,17 +255,61 @@ fn chain(what: &str, offered: Offered, depths: &[usize], one: Run, other: Run) {
         let offered = black_box(&offered);
         black_box(run(black_box(new), offered, &mut out.0, &mut out.1));
     };
-    compare(
-        what,
-        || timed(one, &mut out),
-        || timed(other, &mut other_out),
-    );
+    medians(|| timed(one, &mut out), || timed(other, &mut other_out))
+}
+
+fn chain(what: &str, offered: Offered, depths: &[usize], one: Run, other: Run) {
+    print(what, runs(offered, depths, one, other));
 }
 
 /// The proved run beside the same in plain Rust.
 fn chains(what: &str, offered: Offered, depths: &[usize]) {
     let plain = plain::run::<ByComparison>;
     chain(what, offered, depths, proved_run, plain);
+}
+
+/// How the time of a run grows with the number of FIFOs.
+fn growth(random: &Random) {
+    let each = |time: Duration| time.as_nanos() as f64 / CYCLES as f64;
+    for depth in [16, 64] {
+        for count in [1, 2, 4, 8, 16] {
+            let offered = drawn_offers(random, Clears::Never);
+            let plain = plain::run::<ByComparison>;
+            let (proved, plain) = runs(offered, &vec![depth; count], proved_run, plain);
+            let (proved, plain) = (each(proved), each(plain));
+            let of_one = proved / count as f64;
+            println!("{count:3} of depth {depth}   {proved:8.1} {of_one:8.1} {plain:8.1}");
+        }
+    }
+}
+
+/// Steps in a row by value, as many as a run has cycles, each given what the one before handed back.
+fn chain_steps(what: &str, random: &Random, depths: &[usize]) {
+    let offered = drawn_offers(random, Clears::Never);
+    let new = linked::chain_new(depths).kept;
+    let all = |step: fn(Chain, bool, Payload, bool, bool) -> Stepped<Chain>| {
+        let mut chain = black_box(new);
+        for c in 0..CYCLES {
+            let payload = Payload {
+                data: offered.data[c],
+                strb: offered.control[c] >> 4,
+            };
+            let (valid, sink) = (offered.control[c] & 1 == 1, offered.sink[c] == 1);
+            chain = black_box(step(chain, valid, payload, sink, false)).next;
+        }
+        chain
+    };
+    let ends = (all(linked::chain_step), all(plain::chain_step));
+    assert_eq!(Line::of(&ends.0), Line::of(&ends.1));
+    compare(
+        what,
+        || {
+            black_box(all(linked::chain_step));
+        },
+        || {
+            black_box(all(plain::chain_step));
+        },
+    );
 }
 
 type Step = fn(Fifo, bool, Payload, bool, bool) -> Stepped<Fifo>;
@@ -359,6 +412,10 @@ fn main() {
         let offered = drawn_offers(&Random::new(16), Clears::Each(16));
         chains(&what, offered, depths);
     }
+    for (line, depths) in LINES {
+        let what = format!("chain step by step, {line}");
+        chain_steps(&what, &random, depths);
+    }
     addresses();
     records(record);
     println!("\nratio of the time of a record that is fed to that of the checker on the whole trace, both proved;");
@@ -368,6 +425,12 @@ fn main() {
         "ratio", "", "record", "checker"
     );
     records(record_beside_checker);
+    println!("\nnanoseconds a cycle of a run: all FIFOs, each one, and all in plain Rust\n");
+    println!(
+        "{:15} {:>8} {:>8} {:>8}",
+        "FIFOs", "proved", "each", "plain"
+    );
+    growth(&random);
     println!("\nratio of the time with a comparison for a place in a ring to plain Rust's with a remainder\n");
     println!(
         "{:5}   {:<57} {:>8} {:>8}",

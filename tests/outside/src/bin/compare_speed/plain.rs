@@ -270,7 +270,54 @@ pub fn step<P: Places>(
     stepped
 }
 
-/// A run of a chain that has its form over a legal trace, in place: from the outlet to the mouth in each cycle.
+/// One cycle of FIFOs in a row, in place, from the outlet to the mouth: what the outlet shows.
+fn row_cycle<P: Places>(fifos: &mut [Fifo], offer: Option<Payload>, sink: bool) -> Option<Payload> {
+    let shown = oldest(&fifos[fifos.len() - 1]);
+    let mut sink_ready = sink;
+    for i in (0..fifos.len()).rev() {
+        let offer = if i > 0 { oldest(&fifos[i - 1]) } else { offer };
+        let was_ready = ready(&fifos[i]);
+        cycle::<P>(&mut fifos[i], offer, sink_ready);
+        sink_ready = was_ready;
+    }
+    shown
+}
+
+/// A step of a chain of any form, by value.
+#[inline(never)]
+pub fn chain_step(
+    chain: Chain,
+    valid: bool,
+    payload: Payload,
+    sink: bool,
+    clear: bool,
+) -> Stepped<Chain> {
+    let mut stepped = Stepped {
+        refusal: 0,
+        ready: false,
+        valid: false,
+        payload: NOTHING,
+        next: chain,
+    };
+    let fifos = &mut stepped.next.fifos;
+    let count = chain.count;
+    if count == 0 || count > MAX_FIFOS || !fifos[..count].iter().all(is_well::<ByComparison>) {
+        stepped.refusal = 6;
+    } else if payload.strb > 15 {
+        stepped.refusal = 2;
+    } else if clear {
+        fifos[..count].iter_mut().for_each(|fifo| fifo.count = 0);
+    } else {
+        stepped.ready = ready(&fifos[0]);
+        let offer = valid.then_some(payload);
+        if let Some(shown) = row_cycle::<ByComparison>(&mut fifos[..count], offer, sink) {
+            (stepped.valid, stepped.payload) = (true, shown);
+        }
+    }
+    stepped
+}
+
+/// A run of a chain that has its form over a legal trace, in place.
 #[inline(never)]
 pub fn run<P: Places>(
     mut chain: Chain,
@@ -291,22 +338,12 @@ pub fn run<P: Places>(
             fifos.iter_mut().for_each(|fifo| fifo.count = 0);
             continue;
         }
-        let shown = oldest(&fifos[fifos.len() - 1]);
+        let (data, strb) = (data[c], control[c] >> 4);
+        let offer = (control[c] & 1 != 0).then_some(Payload { data, strb });
+        let shown = row_cycle::<P>(fifos, offer, sink[c] == 1);
         let strb = shown.map_or(0, |p| p.strb);
         out_control[c] = strb << 4 | sink[c] << 1 | u8::from(shown.is_some());
         out_data[c] = shown.map_or(0, |p| p.data);
-        let mut sink_ready = sink[c] == 1;
-        for i in (0..fifos.len()).rev() {
-            let offer = if i > 0 {
-                oldest(&fifos[i - 1])
-            } else {
-                let (data, strb) = (data[c], control[c] >> 4);
-                (control[c] & 1 != 0).then_some(Payload { data, strb })
-            };
-            let was_ready = ready(&fifos[i]);
-            cycle::<P>(&mut fifos[i], offer, sink_ready);
-            sink_ready = was_ready;
-        }
     }
     chain
 }
