@@ -11,11 +11,11 @@ pub bit-most : (b : Bool) → bit b ≤ 1
 bit-most true = omega arith
 bit-most false = omega arith
 
-pub bit-reads : (b : Bool) → eqb (bit b) 1 ≡ b
+bit-reads : (b : Bool) → eqb (bit b) 1 ≡ b
 bit-reads true = refl
 bit-reads false = refl
 
-pub byte-reads : (valid ready clear : Bool) (strb word : ℕ) →
+byte-reads : (valid ready clear : Bool) (strb word : ℕ) →
     sample (byteOf valid ready clear strb) word
     ≡ record { valid = valid; ready = ready; clear = clear; payload = record { «data» = word; strb = strb } }
 byte-reads valid ready clear strb word =

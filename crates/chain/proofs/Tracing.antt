@@ -1,7 +1,7 @@
 -- A run over a trace: after `i` cycles the line is where the first `i` of them lead, and the outputs hold what they write,
 -- then what stood there. One turn, over plain values. Assumes nothing.
-use mathlib.Core.Path.{_≡_, refl, sym, ap, ap₂, _∙_}
-use mathlib.Core.Bool.{Bool, true, false}
+use mathlib.Core.Path.{_≡_, refl, sym, ap, _∙_}
+use mathlib.Core.Bool.{Bool, true}
 use mathlib.Core.List.{List, [], _∷_, _++_, map, map-append}
 use Prim.Native.Nat.{ℕ, zero, suc, _+_, _<_}
 use native.Mathlib.Omega.{arith}
@@ -14,10 +14,9 @@ use Rattle.signals.specs.Stream.{Sample, sample}
 use Rattle.signals.proofs.Writing.{writes-one}
 use Rattle.fifo.specs.Queue.{Queue, isAny, shownAs}
 use Rattle.chain.specs.Cycles.{Cycle, shownIn, after, afterAll, outletIn, outletTrace}
-use Rattle.chain.specs.Calls.{Value, well, isWell, queues, bit, byteOf, recorded, controlByte, dataWord}
-use Rattle.chain.specs.Cycling.{given, Sized, Traced}
+use Rattle.chain.specs.Calls.{Value, well, isWell, queues, byteOf, recorded, controlByte, dataWord}
+use Rattle.chain.specs.Cycling.{Sized, Traced}
 use Rattle.chain.proofs.Used.{well-row}
-use Rattle.chain.proofs.Bytes.{bit-reads, byte-reads, sample-reads}
 
 -- the cycle that three entries record
 abbrev pub recordedAs : (control word sink : ℕ) → Cycle
@@ -107,28 +106,3 @@ module _ (qs : List Queue) (cs ws ss oldControls oldWords : List ℕ) (line : Va
         writesControls = w .writesControls ∙ rw (all, made controlByte);
         writesWords = w .writesWords ∙ rw (all, made dataWord);
       }
-
--- what a run over a trace of one cycle leaves and writes is that cycle's
-pub record TracedOne (qs : List Queue) (c : Cycle) (back : Value) (control word : ℕ) : Type 0 where
-  pub next : back ≡ well (after qs c)
-  pub shows : sample control word ≡ outletIn qs c
-
-pub traced-one : (qs : List Queue) (valid : Bool) (payload : Payload) (sink clear : Bool) (back : Value) (exitControls exitWords : List ℕ)
-    → Traced qs (byteOf valid false clear (payload .strb) ∷ []) (payload .«data» ∷ []) (bit sink ∷ []) (0 ∷ []) (0 ∷ []) back exitControls exitWords
-    → TracedOne qs (given valid payload sink clear) back (getD exitControls 0 0) (getD exitWords 0 0)
-traced-one qs valid payload sink clear back exitControls exitWords t =
-    let this = given valid payload sink clear in
-    let one : recordedAs (byteOf valid false clear (payload .strb)) (payload .«data») (bit sink) ≡ this =
-    ap₂ (λ (s : Sample) (b : Bool). given (s .valid) (s .payload) b (s .clear)) (byte-reads valid false clear (payload .strb) (payload .«data»)) (bit-reads sink)
-    in
-    let o = outletIn qs this in
-    let control : getD exitControls 0 0 ≡ controlByte o =
-    ap (λ (l : List ℕ). getD l 0 0) (t .writesControls) ∙ ap (λ (c : Cycle). controlByte (outletIn qs c)) one
-    in
-    let word : getD exitWords 0 0 ≡ dataWord o =
-    ap (λ (l : List ℕ). getD l 0 0) (t .writesWords) ∙ ap (λ (c : Cycle). dataWord (outletIn qs c)) one
-    in
-    record {
-      next = t .next ∙ ap (λ (c : Cycle). well (after qs c)) one;
-      shows = rw (control, word) (sample-reads o);
-    }

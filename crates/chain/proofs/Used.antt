@@ -4,14 +4,14 @@ use mathlib.Core.Path.{_≡_, refl, sym, ap, _∙_}
 use mathlib.Core.Bool.{Bool, true, false, _&&_, false≢true}
 use mathlib.Core.List.{List, [], _∷_, _++_, map, map-append}
 use mathlib.Core.Logic.{⊎-elim}
-use Prim.Native.Nat.{ℕ, suc, _+_, _-_, _≤_, _<_}
+use Prim.Native.Nat.{ℕ, zero, suc, _+_, _-_, _≤_, _<_}
 use native.Mathlib.Nat.{sub-zero}
 use native.Mathlib.Omega.{arith}
 use native.Mathlib.Numerals.{add-one}
 use borrow.Author.Tests.{leb-true, le-leb}
 use lib.Dec.{leb}
-use lib.ListN.{length, getD, set, take, drop}
-use lib.Seq.{drop-cons, drop-set-lt, take-suc-set}
+use lib.ListN.{length, getD, set, take, drop, length-map}
+use lib.Seq.{drop-cons, take-suc-set, length-take-le}
 use Rattle.signals.proofs.Bools.{either, both}
 use Rattle.fifo.specs.declared.Fifo.{Fifo}
 use Rattle.fifo.specs.Queue as queue
@@ -42,14 +42,33 @@ module _ (fs : List Fifo) (i n : ℕ) where
   unfolding valuesFrom
   from-end h = let e : n - i ≡ 0 = omega arith in rw e
 
-  -- a store at place i changes none of those after it
-  pub from-set : (f : Fifo) → valuesFrom (set fs i f) (i + 1) n ≡ valuesFrom fs (i + 1) n
-  unfolding valuesFrom
-  from-set f = rw (drop-set-lt (i + 1) fs i f (omega arith))
-
   pub below-set : (f : Fifo) → i < length fs → valuesBelow (set fs i f) (i + 1) ≡ valuesBelow fs i ++ (fifo.value f ∷ [])
   unfolding valuesBelow
   below-set f h = rw (add-one i, take-suc-set fs i f h, map-append)
+
+-- the used FIFOs' values: how many, one of them, and after a store
+pub used-length : (fs : List Fifo) (n : ℕ) → n ≤ length fs → length (valuesFrom fs 0 n) ≡ n
+used-length fs n k = rw (from-start fs n, length-map (take n fs) fifo.value, length-take-le n fs k)
+
+pub used-at : (fs : List Fifo) (n i : ℕ) (d : Fifo) → i < n → n ≤ length fs → getD (valuesFrom fs 0 n) i queue.ill ≡ fifo.value (getD fs i d)
+used-at fs n i d h k = rw (from-start fs n) (below fs n i h k)
+  where
+    below : (fs : List Fifo) (n i : ℕ) → i < n → n ≤ length fs → getD (map fifo.value (take n fs)) i queue.ill ≡ fifo.value (getD fs i d)
+    below fs zero i h k = absurd (omega arith)
+    below [] (suc n) i h k = absurd (omega arith)
+    below (f ∷ fs) (suc n) zero h k = refl
+    below (f ∷ fs) (suc n) (suc i) h k = below fs n i (omega arith) (omega arith)
+
+pub used-set : (fs : List Fifo) (n i : ℕ) (f : Fifo) → i < n → n ≤ length fs
+    → set (valuesFrom fs 0 n) i (fifo.value f) ≡ valuesFrom (set fs i f) 0 n
+used-set fs n i f h k = rw (from-start fs n, from-start (set fs i f) n) (below fs n i h k)
+  where
+    below : (fs : List Fifo) (n i : ℕ) → i < n → n ≤ length fs
+        → set (map fifo.value (take n fs)) i (fifo.value f) ≡ map fifo.value (take n (set fs i f))
+    below fs zero i h k = absurd (omega arith)
+    below [] (suc n) i h k = absurd (omega arith)
+    below (g ∷ fs) (suc n) zero h k = refl
+    below (g ∷ fs) (suc n) (suc i) h k = ap (λ (l : List queue.Value). fifo.value g ∷ l) (below fs n i (omega arith) (omega arith))
 
 -- a line has its form when its first FIFO has, and the others have
 pub line-well : (v : queue.Value) (vs : List queue.Value) → isWell (lineOf (v ∷ vs)) ≡ (queue.isWell v && isWell (lineOf vs))

@@ -13,15 +13,14 @@ use Rattle.signals.specs.Payloads.{zeros, legalStrb}
 use Rattle.signals.proofs.Bools.{clash}
 use Rattle.fifo.specs.declared.Fifo.{Fifo}
 use Rattle.fifo.specs.Queue as queue
-use Rattle.fifo.specs.Queue.{Queue, readyOf, when, isAny, shown, shownAs, next, emptied, cycled, cleared}
+use Rattle.fifo.specs.Queue.{Queue, readyOf, when, isAny, shown, shownAs, next, emptied}
 use Rattle.fifo.specs.Promises as fifo
-use Rattle.fifo.proofs.Stepping.{ready-of-value, shown-offered}
-use Rattle.fifo.proofs.Lending.{Served}
+use Rattle.fifo.proofs.Stepping.{ready-of-value, shown-offered, Served}
 use Rattle.chain.specs.declared.Chain.{Chain}
 use Rattle.chain.specs.Line.{mouth, cycle, outlet}
 use Rattle.chain.specs.Calls.{Value, ill, well, queues, maxFifos}
 use Rattle.chain.specs.Promises.{lineOf, before, value}
-use Rattle.chain.proofs.Used.{from-cons, Formed}
+use Rattle.chain.proofs.Used.{valuesFrom, from-cons, used-length, used-at, Formed}
 
 -- a row of values that all have their form, and back
 pub line-of-wells : (qs : List Queue) → lineOf (map queue.well qs) ≡ well qs
@@ -100,6 +99,15 @@ module _ (vs : List queue.Value) (i : ℕ) where
         below = rw (add-one i, take-suc-set vs i (queue.well q) h, below, map-append);
         from = drop-set-lt (i + 1) vs i (queue.well q) (omega arith) ∙ from;
       }
+
+-- a used FIFO of a chain is ready to what stands before it
+pub used-ready : (fs : List Fifo) (n i : ℕ) (d : Fifo) (others : List Queue) (sink : Bool) → i < n → n ≤ length fs
+    → drop i (valuesFrom fs 0 n) ≡ map queue.well others → readyOf (fifo.trusted (getD fs i d)) ≡ mouth others sink
+used-ready fs n i d others sink h k e =
+    let vs = valuesFrom fs 0 n in
+    let inside : i < length vs = omega (arith, used-length fs n k) in
+    let f = front vs i others inside e in
+    ready-of-value _ (f .first) (sym (used-at fs n i d h k) ∙ f .has) ∙ sym (ap readyOf (f .has)) ∙ mouth-ready vs i others sink inside e
 
 -- so far in a cycle: what is served is as the rule leaves it, and the rest of the row, fed with what is handed on, makes the rule's row and
 -- outlet

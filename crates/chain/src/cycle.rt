@@ -7,39 +7,45 @@ ghost use Rattle.chain.specs.Promises.{value};
 ghost use Rattle.chain.specs.Cycling.{given, Cycled};
 use super::Chain;
 use super::Stepped;
-use super::trace::bit;
-use super::trace::control_byte;
 use signals::Outcome;
 use signals::Payload;
-use signals::stream;
 
 impl Chain {
-    // One cycle, with clear or without: a run over a trace of one. The mouth is ready as its FIFO is, and not in a clear.
+    // One cycle, with clear or without. The walk goes from the mouth to the outlet, as a run's does, but by value: for one cycle nothing is
+    // laid out. The mouth is ready as its FIFO is, and not in a clear.
     pub(crate) fn advance(self, valid: bool, payload: Payload, sink: bool, clear: bool) -> Stepped
         requires { ⌜ isWell (value self) ≡ true ⌝ }
         requires { ⌜ legalStrb payload ≡ true ⌝ }
         ensures { λ r. ⌜ Cycled (queues (value self)) (given valid payload sink clear) r ⌝ }
     {
         self.has_all();
-        let first = self.fifos[0];
+        let mut chain = self;
+        let last = chain.count - 1;
+        let first = chain.fifos[0];
         let ready = !clear & first.is_ready();
-        let control = [control_byte(valid, false, clear, payload.strb); 1];
-        let data = [payload.data; 1];
-        let sinks = [bit(sink); 1];
-        let mut out_control = [0u8; 1];
-        let mut out_data = [0u32; 1];
-        let next = self.traced(&control, &data, &sinks, &mut out_control, &mut out_data);
-        let c = out_control[0];
-        let shown = Payload {
-            data: out_data[0],
-            strb: stream::strb(c),
-        };
+        let mut offers = valid;
+        let mut offer = payload;
+        let mut j: usize = 0;
+        while j <= last {
+            let f = chain.fifos[j];
+            let mut behind_ready = sink;
+            if j < last {
+                let behind = chain.fifos[j + 1];
+                behind_ready = behind.is_ready();
+            }
+            let r = f.step_trusted(offers, offer, behind_ready, clear);
+            let n = r.next;
+            chain.fifos[j] = n;
+            offers = r.valid;
+            offer = r.payload;
+            j += 1;
+        }
         Stepped {
             outcome: Outcome::Accepted,
             ready: ready,
-            valid: stream::valid(c),
-            payload: shown,
-            next: next,
+            valid: offers,
+            payload: offer,
+            next: chain,
         }
     }
 }

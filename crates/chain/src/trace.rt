@@ -36,14 +36,14 @@ fn any_above_one(sinks: &[u8]) -> bool
     false
 }
 
-pub(crate) fn bit(b: bool) -> u8
+fn bit(b: bool) -> u8
     ensures { λ r. ⌜ r ≡ bitOf b ⌝ }
 {
     if b { 1 } else { 0 }
 }
 
 // The control byte that records valid, ready, clear and strb; its reserved bit is 0.
-pub(crate) fn control_byte(valid: bool, ready: bool, clear: bool, strb: u8) -> u8
+fn control_byte(valid: bool, ready: bool, clear: bool, strb: u8) -> u8
     requires { ⌜ strb ≤ maxStrb ⌝ }
     ensures { λ r. ⌜ r ≡ byteOf valid ready clear strb ⌝ }
 {

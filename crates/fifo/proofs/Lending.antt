@@ -3,8 +3,8 @@
 use Prim.Native.Nat.{ℕ, _≤_}
 use native.Mathlib.Omega.{arith}
 use mathlib.Core.Bool.{Bool, true, false, cond}
-use mathlib.Core.List.{List, [], _∷_}
-use mathlib.Core.Path.{_≡_, sym, ap, _∙_}
+use mathlib.Core.List.{List}
+use mathlib.Core.Path.{_≡_, ap, _∙_}
 use borrow.Author.Tests.{le-leb}
 use lib.ListN.{length}
 use Rattle.signals.specs.declared.Payload.{Payload}
@@ -13,13 +13,13 @@ use Rattle.signals.proofs.Bools.{clash}
 use Rattle.fifo.specs.declared.Fifo.{Fifo}
 use Rattle.fifo.specs.declared.Pointers.{Pointers}
 use Rattle.fifo.specs.declared.SteppedIn.{SteppedIn}
-use Rattle.fifo.specs.Queue.{Queue, Value, ill, well, readyOf, Answer, cleared, cycled, stepOf, when, ready, maxDepth}
+use Rattle.fifo.specs.Queue.{Queue, ill, well, readyOf, ready, maxDepth}
 use Rattle.fifo.specs.Ring.{value, trusted, strobesChecked}
 use Rattle.fifo.specs.Memory.{fifoIn, hasSlots, trustedIn, valueIn, readyIn}
 use Rattle.fifo.specs.Promises.{LaysIn, StepsIn, answeredIn}
 use Rattle.fifo.proofs.Form.{depth-within, trusted-range}
 use Rattle.fifo.proofs.Strobes.{checked-well, trusted-of-value}
-use Rattle.fifo.proofs.Stepping.{step-legal, Legal, answer-legal}
+use Rattle.fifo.proofs.Stepping.{Served, answer-serves}
 
 -- the memory has a slot for each place where the pointers stand for a queue
 trusted-of-memory : (p : Pointers) (words strbs : List ℕ) (q : Queue) → trustedIn p words strbs ≡ well q → trusted (fifoIn p words strbs) ≡ well q
@@ -35,13 +35,6 @@ pub ready-in : (p : Pointers) (words strbs : List ℕ) (q : Queue) → valueIn p
 unfolding valueIn
 ready-in p words strbs q e = ap readyOf (trusted-of-memory p words strbs q (checked-well (trustedIn p words strbs) q e .0))
 
--- what a FIFO that holds q answers in one cycle, with clear or without, and the value that it leaves
-pub record Served (q : Queue) (offers : Bool) (p : Payload) (behind clear valid : Bool) (payload : Payload) (v : Value) : Type 0 where
-  pub by-valid : valid ≡ cond clear (cleared q) (cycled q (when offers (p ∷ [])) behind) .valid
-  pub by-payload : payload ≡ cond clear (cleared q) (cycled q (when offers (p ∷ [])) behind) .payload
-  pub by-next : v ≡ cond clear (cleared q) (cycled q (when offers (p ∷ [])) behind) .next
-  pub legal : legalStrb payload ≡ true
-
 -- a step with a legal payload
 pub serves : (p : Pointers) (words strbs : List ℕ) (q : Queue) (offers : Bool) (offer : Payload) (behind clear : Bool) (r : SteppedIn)
     (afterWords afterStrbs : List ℕ)
@@ -49,17 +42,7 @@ pub serves : (p : Pointers) (words strbs : List ℕ) (q : Queue) (offers : Bool)
     → Served q offers offer behind clear (r .valid) (r .payload) (valueIn (r .next) afterWords afterStrbs)
 unfolding valueIn
 serves p words strbs q offers offer behind clear r afterWords afterStrbs before legal steps =
-    let look = checked-well (trustedIn p words strbs) q before in
-    let a : Answer = answeredIn r afterWords afterStrbs in
-    let by-rule : a ≡ stepOf (well q) offers offer behind clear = steps .answer ∙ ap (λ (v : Value). stepOf v offers offer behind clear) (look .0) in
-    let legal-answer : Legal a = rw by-rule (answer-legal q offers behind clear offer (look .1)) in
-    let by-cycle : a ≡ cond clear (cleared q) (cycled q (when offers (offer ∷ [])) behind) = by-rule ∙ step-legal q offers behind clear offer legal in
-    record {
-      by-valid = ap (λ (x : Answer). x .valid) by-cycle;
-      by-payload = ap (λ (x : Answer). x .payload) by-cycle;
-      by-next = legal-answer .next ∙ ap (λ (x : Answer). x .next) by-cycle;
-      legal = legal-answer .payload;
-    }
+    answer-serves (trustedIn p words strbs) q offers offer behind clear (answeredIn r afterWords afterStrbs) before legal (steps .answer)
 
 -- a FIFO that is laid in memory enough for the deepest
 pub lays-value : (f : Fifo) (words strbs : List ℕ) (q : Queue) (r : Pointers) (afterWords afterStrbs : List ℕ) → value f ≡ well q

@@ -9,7 +9,7 @@ use mathlib.Core.Path.{_≡_, refl, sym, ap, _∙_}
 use Rattle.signals.specs.declared.Payload.{Payload}
 use Rattle.signals.specs.declared.Refusal.{Refusal}
 use Rattle.signals.specs.declared.Outcome.the-variants.{Refused}
-use Rattle.signals.specs.Refusals.{numberOf, refusalOf, accepts}
+use Rattle.signals.specs.Refusals.{numberOf, accepts}
 use Rattle.signals.specs.Tables.{firstOf}
 use Rattle.signals.specs.Payloads.{zeros, legalStrb}
 use Rattle.signals.proofs.Bools.{either}
@@ -20,7 +20,7 @@ use Rattle.fifo.specs.declared.SteppedIn.{SteppedIn}
 use Rattle.fifo.specs.Queue.{Queue, Value, well, readyOf, Answer, refused, cleared, cycled, stepGrounds, stepBy, stepOf, when, isAny, oldest, shown, shownAs, ready, next, emptied, legalStrbs}
 use Rattle.fifo.specs.Ring.{trusted, value, strobesChecked}
 use Rattle.fifo.specs.Promises.{Steps, answered, trustedIn, StaysPast, StepsIn, answeredIn}
-use Rattle.fifo.proofs.Strobes.{legal-one, legal-when, shown-payload-legal, next-legal, empty-legal, checked-legal, trusted-of-value}
+use Rattle.fifo.proofs.Strobes.{legal-one, legal-when, shown-payload-legal, next-legal, empty-legal, checked-legal, checked-well, trusted-of-value}
 
 -- what a FIFO shows, offered to the next one, is what it shows
 pub shown-offered : (q : Queue) → when (isAny (shown q)) (shownAs (shown q) ∷ []) ≡ shown q
@@ -102,11 +102,11 @@ cycle-steps-in p words strbs q offer sink clear payload r afterWords afterStrbs 
     record { answer = by-rule .0; past = past; kept = λ n. absurd (false≢true (sym n ∙ by-rule .1)) }
 
 -- an answer with a legal payload, and a next queue with legal strobes
-pub record Legal (a : Answer) : Type 0 where
+record Legal (a : Answer) : Type 0 where
   pub payload : legalStrb (a .payload) ≡ true
   pub next : strobesChecked (a .next) ≡ a .next
 
-pub answer-legal : (q : Queue) (offer sink clear : Bool) (p : Payload) → legalStrbs (q .held) ≡ true → Legal (stepOf (well q) offer p sink clear)
+answer-legal : (q : Queue) (offer sink clear : Bool) (p : Payload) → legalStrbs (q .held) ≡ true → Legal (stepOf (well q) offer p sink clear)
 unfolding stepOf
 answer-legal q offer sink clear p a =
     ⊎-elim (λ e. rw e (by-clear e clear)) (λ e. rw e (record { payload = refl; next = checked-legal q a })) (either (legalStrb p))
@@ -139,3 +139,32 @@ module _ (f : Fifo) (q : Queue) (offer : Bool) (p : Payload) (sink clear : Bool)
         answer = rw (same-value, before) by-rule;
         kept = steps .kept;
       }
+
+-- what a FIFO that holds q answers in one cycle, with clear or without, and the value that it leaves
+pub record Served (q : Queue) (offers : Bool) (p : Payload) (behind clear valid : Bool) (payload : Payload) (v : Value) : Type 0 where
+  pub by-valid : valid ≡ cond clear (cleared q) (cycled q (when offers (p ∷ [])) behind) .valid
+  pub by-payload : payload ≡ cond clear (cleared q) (cycled q (when offers (p ∷ [])) behind) .payload
+  pub by-next : v ≡ cond clear (cleared q) (cycled q (when offers (p ∷ [])) behind) .next
+  pub legal : legalStrb payload ≡ true
+
+-- an answer of the rule to a legal payload serves
+pub answer-serves : (v : Value) (q : Queue) (offers : Bool) (p : Payload) (behind clear : Bool) (a : Answer) → strobesChecked v ≡ well q
+    → legalStrb p ≡ true → a ≡ stepOf v offers p behind clear → Served q offers p behind clear (a .valid) (a .payload) (strobesChecked (a .next))
+answer-serves v q offers p behind clear a before legal answer =
+    let look = checked-well v q before in
+    let by-rule : a ≡ stepOf (well q) offers p behind clear = answer ∙ ap (λ (w : Value). stepOf w offers p behind clear) (look .0) in
+    let legal-answer : Legal a = rw by-rule (answer-legal q offers behind clear p (look .1)) in
+    let by-cycle : a ≡ cond clear (cleared q) (cycled q (when offers (p ∷ [])) behind) = by-rule ∙ step-legal q offers behind clear p legal in
+    record {
+      by-valid = ap (λ (x : Answer). x .valid) by-cycle;
+      by-payload = ap (λ (x : Answer). x .payload) by-cycle;
+      by-next = legal-answer .next ∙ ap (λ (x : Answer). x .next) by-cycle;
+      legal = legal-answer .payload;
+    }
+
+-- and so does a trusted step
+pub trusted-serves : (f : Fifo) (q : Queue) (offers : Bool) (p : Payload) (behind clear : Bool) (r : Stepped) → value f ≡ well q
+    → legalStrb p ≡ true → Steps trusted f offers p behind clear r → Served q offers p behind clear (r .valid) (r .payload) (value (r .next))
+unfolding value
+trusted-serves f q offers p behind clear r before legal steps =
+    answer-serves (trusted f) q offers p behind clear (answered trusted r) before legal (steps .answer)

@@ -107,7 +107,7 @@ impl Fifo {
     }
 
     // One cycle of a FIFO whose held strobes are trusted: what is tested of its form takes constant time.
-    fn step_trusted(self, valid: bool, payload: Payload, sink: bool, clear: bool) -> Stepped
+    pub fn step_trusted(self, valid: bool, payload: Payload, sink: bool, clear: bool) -> Stepped
         ensures { λ r. ⌜ Steps trusted self valid payload sink clear r ⌝ }
     {
         let formed = self.is_in_range();
