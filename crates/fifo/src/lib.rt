@@ -1,7 +1,8 @@
 // One FIFO of payloads, a cycle at a time.
 //
-// Writes out the FIFO of "The stage and the line" of document 01. The value of a FIFO is its depth and its payloads,
-// the oldest first (`specs/Queue.antt`); the ring that holds them (`specs/Ring.antt`) is nobody else's affair.
+// Writes out the FIFO of "The stage and the line" of document 01, with request T-06. The value of a FIFO is its depth and its payloads,
+// the oldest first (`specs/Queue.antt`); the ring that holds them (`specs/Ring.antt`) is nobody else's affair. The same FIFO may lie in
+// lent memory (`memory.rt`).
 mod memory;
 mod ring;
 

@@ -427,3 +427,20 @@ fn the_longest_of_the_deepest() {
         assert_eq!(Line::of(&drained.next), Line::of(&empty));
     }
 }
+
+/// The longest chain of the deepest FIFOs is made, stepped and run on a stack of 256 KB, a thirty-second part of the usual one.
+#[test]
+fn a_small_stack() {
+    let calls = || {
+        let chain = linked::chain_new(&[MAX_DEPTH; MAX_FIFOS]).kept;
+        let chain = linked::chain_step(chain, true, NOTHING, true, false).next;
+        let offered = Offered {
+            control: vec![0xf1; 100],
+            data: vec![1; 100],
+            sink: vec![1; 100],
+        };
+        linked::chain_run(chain, &offered, &mut [0; 100], &mut [0; 100]).refusal
+    };
+    let thread = std::thread::Builder::new().stack_size(256 * 1_024);
+    assert_eq!(thread.spawn(calls).unwrap().join().unwrap(), 0);
+}
