@@ -268,18 +268,25 @@ fn chains(what: &str, offered: Offered, depths: &[usize]) {
     chain(what, offered, depths, proved_run, plain);
 }
 
+/// An offer and a ready sink in every cycle.
+fn steady_offers() -> Offered {
+    Offered {
+        control: vec![0xf1; CYCLES],
+        data: vec![7; CYCLES],
+        sink: vec![1; CYCLES],
+    }
+}
+
 /// How the time of a run grows with the number of FIFOs.
-fn growth(random: &Random) {
+fn growth(what: &str, offers: impl Fn() -> Offered) {
     let each = |time: Duration| time.as_nanos() as f64 / CYCLES as f64;
-    for depth in [16, 64] {
-        for count in [1, 2, 4, 8, 16] {
-            let offered = drawn_offers(random, Clears::Never);
-            let plain = plain::run::<ByComparison>;
-            let (proved, plain) = runs(offered, &vec![depth; count], proved_run, plain);
-            let (proved, plain) = (each(proved), each(plain));
-            let of_one = proved / count as f64;
-            println!("{count:3} of depth {depth}   {proved:8.1} {of_one:8.1} {plain:8.1}");
-        }
+    for count in [1, 2, 4, 8, 16] {
+        let depths = vec![MAX_DEPTH; count];
+        let plain = plain::run::<ByComparison>;
+        let (proved, plain) = runs(offers(), &depths, proved_run, plain);
+        let (proved, plain) = (each(proved), each(plain));
+        let of_one = proved / count as f64;
+        println!("{count:5}   {what:<25} {proved:8.1} {of_one:8.1} {plain:8.1}");
     }
 }
 
@@ -425,12 +432,13 @@ fn main() {
         "ratio", "", "record", "checker"
     );
     records(record_beside_checker);
-    println!("\nnanoseconds a cycle of a run: all FIFOs, each one, and all in plain Rust\n");
+    println!("\nnanoseconds a cycle of a run over FIFOs of depth {MAX_DEPTH}: all of them, each, and all in plain Rust\n");
     println!(
-        "{:15} {:>8} {:>8} {:>8}",
-        "FIFOs", "proved", "each", "plain"
+        "{:5}   {:<25} {:>8} {:>8} {:>8}",
+        "FIFOs", "", "proved", "each", "plain"
     );
-    growth(&random);
+    growth("random offers", || drawn_offers(&random, Clears::Never));
+    growth("an offer in every cycle", steady_offers);
     println!("\nratio of the time with a comparison for a place in a ring to plain Rust's with a remainder\n");
     println!(
         "{:5}   {:<57} {:>8} {:>8}",
