@@ -102,17 +102,25 @@ loop2-holds c =
       (v .0, (omega arith, v .1 .0)),
     )
 
+-- the place of a turn of the walk is one of the used FIFOs'
+place : (c : tie.In-loop2 Inv-loop2 μ-loop2 Inv-loop μ-loop) → c .before .loop2 .j < entry (turn (c .before .before)) .args .count
+place c = omega (arith, c .loop2-test .taken, c .before .loop2 .inv .1 .1 .1)
+
+-- and so below the longest chain's
+below : (c : tie.In-loop2 Inv-loop2 μ-loop2 Inv-loop μ-loop) → c .before .loop2 .j < maxFifos
+below c = omega (arith, place c, c .before .loop2 .inv .1 .0 .most)
+
 mul-p : tie.Need-mul-p Inv-loop2 μ-loop2 Inv-loop μ-loop
-mul-p c = search needs
+mul-p c = omega (arith, below c)
 
 array-copy-out-p : tie.Need-array-copy-out-p Inv-loop2 μ-loop2 Inv-loop μ-loop
-array-copy-out-p c = search needs
+array-copy-out-p c = below c
 
 add-behind : tie.Need-add-behind Inv-loop2 μ-loop2 Inv-loop μ-loop
-add-behind c = search needs
+add-behind c = omega (arith, below (c .before .before))
 
 mul-behind : tie.Need-mul-behind Inv-loop2 μ-loop2 Inv-loop μ-loop
-mul-behind c = search needs
+mul-behind c = omega (arith, below (c .before .before))
 
 array-copy-out-behind : tie.Need-array-copy-out-behind Inv-loop2 μ-loop2 Inv-loop μ-loop
 array-copy-out-behind c = search needs
@@ -121,16 +129,16 @@ is-ready-requires : tie.Need-is-ready-requires Inv-loop2 μ-loop2 Inv-loop μ-lo
 is-ready-requires c κs = search needs
 
 mul-start : tie.Need-mul-start Inv-loop2 μ-loop2 Inv-loop μ-loop
-mul-start c = search needs
+mul-start c = omega (arith, below (c .before .before))
 
 add-end : tie.Need-add-end Inv-loop2 μ-loop2 Inv-loop μ-loop
-add-end c = search needs
+add-end c = omega (arith, below (c .before .before))
 
 mul-step : tie.Need-mul-step Inv-loop2 μ-loop2 Inv-loop μ-loop
-mul-step c = search needs
+mul-step c = omega (arith, below (c .before .before))
 
 sub-step : tie.Need-sub-step Inv-loop2 μ-loop2 Inv-loop μ-loop
-sub-step c = search needs
+sub-step c = omega arith
 
 part-step-start : tie.Need-part-step-start Inv-loop2 μ-loop2 Inv-loop μ-loop
 part-step-start c = search needs
@@ -139,7 +147,7 @@ part-step-end : tie.Need-part-step-end Inv-loop2 μ-loop2 Inv-loop μ-loop
 part-step-end c = search needs
 
 sub-step-2 : tie.Need-sub-step-2 Inv-loop2 μ-loop2 Inv-loop μ-loop
-sub-step-2 c = search needs
+sub-step-2 c = omega arith
 
 part-step-start-2 : tie.Need-part-step-start-2 Inv-loop2 μ-loop2 Inv-loop μ-loop
 part-step-start-2 c = search needs
@@ -151,20 +159,16 @@ step-requires : tie.Need-step-requires Inv-loop2 μ-loop2 Inv-loop μ-loop
 step-requires c κs = search needs
 
 mul-fifos : tie.Need-mul-fifos Inv-loop2 μ-loop2 Inv-loop μ-loop
-mul-fifos c = search needs
+mul-fifos c = omega (arith, below (c .before .before .before .before .before .before .before .before .before .before))
 
 array-set-from-fifos : tie.Need-array-set-from-fifos Inv-loop2 μ-loop2 Inv-loop μ-loop
-array-set-from-fifos c = search needs
+array-set-from-fifos c = below (c .before .before .before .before .before .before .before .before .before .before)
 
 add-j : tie.Need-add-j Inv-loop2 μ-loop2 Inv-loop μ-loop
-add-j c = search needs
+add-j c = omega (arith, below (c .before .before .before .before .before .before .before .before .before .before .before))
 
 loop2-less : tie.Need-loop2-less Inv-loop2 μ-loop2 Inv-loop μ-loop
-loop2-less c = search needs
-
--- the place of a turn of the walk is one of the used FIFOs'
-place : (c : tie.In-loop2 Inv-loop2 μ-loop2 Inv-loop μ-loop) → c .before .loop2 .j < entry (turn (c .before .before)) .args .count
-place c = omega (arith, c .loop2-test .taken, c .before .loop2 .inv .1 .1 .1)
+loop2-less c = omega (arith, place (c .before .before .before .before .before .before .before .before .before .before .before))
 
 -- ready of what stands behind the FIFO: the next one's, or the sink's
 behind-it : (c : tie.Joined1 Inv-loop2 μ-loop2 Inv-loop μ-loop) (others : List Queue) →

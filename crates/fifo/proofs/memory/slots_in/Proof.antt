@@ -41,7 +41,7 @@ shared-slice-read-t10 : tie.Need-shared-slice-read-t10 Inv-loop μ-loop
 shared-slice-read-t10 c = inside (c .before) .0
 
 shared-slice-read-t12 : tie.Need-shared-slice-read-t12 Inv-loop μ-loop
-shared-slice-read-t12 c = inside (c .before .before) .1 .0
+shared-slice-read-t12 c = omega (arith, inside (c .before .before) .1 .0)
 
 mul-slots : tie.Need-mul-slots Inv-loop μ-loop
 mul-slots c = omega (arith, inside (c .before .before) .1 .1)
