@@ -75,10 +75,10 @@ module _ (seqOn : Bool) (cycles handshakes clears : ℕ) (w : Watch) where
       let now = sample control word in
       let carries = seqOn && carriesCounter now in
       λ i. cleanWith seqOn (cycles + 1) (handshakes + cond (handshake now) 1 0) (clears + cond (clearCycle now) 1 0)
-          (stalled now)
-          (cond (stalled now) (now .payload) zeros)
-          (counted-alike (clearCycle now) carries (w .counted) i)
-          (due-next-alike (clearCycle now) carries (w .counted) (afterCounter (counter now)) (w .due) i)
+      (stalled now)
+      (cond (stalled now) (now .payload) zeros)
+      (counted-alike (clearCycle now) carries (w .counted) i)
+      (due-next-alike (clearCycle now) carries (w .counted) (afterCounter (counter now)) (w .due) i)
 
 -- the last cycle, taken from a record and put back
 module _ (p : Payload) where
