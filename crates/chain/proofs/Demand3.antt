@@ -14,13 +14,15 @@ use Rattle.signals.specs.Refusals.{anyOf}
 use Rattle.signals.specs.Tables.{firstOf}
 use Rattle.signals.proofs.Bools.{both, neither}
 use Rattle.signals.proofs.Tables.{none-keeps}
-use Rattle.fifo.specs.Queue.{empty, legalDepth}
+use Rattle.fifo.specs.declared.Place.{Place}
+use Rattle.fifo.specs.Queue.{empty, legalPlace}
+use Rattle.fifo.proofs.Depths.{capacity-least}
 use Rattle.chain.specs.declared.Chain.{Chain}
+use Rattle.chain.specs.Line.{CapacityAtLeast2}
 use Rattle.chain.specs.Cycles.{Cycle, outletTrace}
 use Rattle.chain.specs.Calls.{Call, well, grounds, asked, backBy, answer, newGrounds, legalCount}
 use Rattle.chain.specs.Promises.{value, Done, Promised}
 use Rattle.chain.specs.Demand3.{Ledger, opened, enteredAll, Session, cyclesBy, cyclesOf, cyclesIn, outletOf, outletsIn, refusalIn, Ruled, Demand3, Claim}
-use Rattle.chain.proofs.Need.{Roomy}
 use Rattle.chain.proofs.Ledger.{Sound, sound-all, sound-opened, stretch-delivers-accepted, clear-drops-held, entered-append, entered-after}
 use Rattle.chain.proofs.Outlet.{trace-keeps-rules, trace-append}
 use Rattle.chain.proofs.Answers.{answer-shows-outlet, answer-refusal, grounds-not6}
@@ -60,47 +62,48 @@ session-shows-outlet l given v (d ∷ ds) s =
     ∙ ap (λ qs. outletTrace qs (cyclesIn ds)) (entered-after l (cyclesOf d)))
     ∙ sym (trace-append (l .line) (cyclesOf d) (cyclesIn ds))
 
--- Depths that `Chain::new` accepts: one FIFO at least, each with room for two.
-record Legal (depths : List ℕ) : Type 0 where
-  count : 1 ≤ length depths
-  room : Roomy (map empty depths)
+-- Places that `Chain::new` accepts: one at least, each of capacity at least 2.
+record Legal (places : List Place) : Type 0 where
+  count : 1 ≤ length places
+  room : CapacityAtLeast2 (map empty places)
 
-legal-room : (depths : List ℕ) → anyOf (λ d. not (legalDepth d)) depths ≡ false → Roomy (map empty depths)
+legal-room : (places : List Place) → anyOf (λ place. not (legalPlace place)) places ≡ false → CapacityAtLeast2 (map empty places)
 legal-room [] h = tt
-legal-room (d ∷ ds) h =
-    let e = neither (not (legalDepth d)) (anyOf (λ x. not (legalDepth x)) ds) h in
-    (leb-true 2 d (both (leb 2 d) _ (not-false (legalDepth d) (e .0)) .0), legal-room ds (e .1))
+legal-room (p ∷ ps) h =
+    let e = neither (not (legalPlace p)) (anyOf (λ place. not (legalPlace place)) ps) h in
+    (capacity-least p (not-false (legalPlace p) (e .0)), legal-room ps (e .1))
 
-new-legal : (depths : List ℕ) → firstOf (newGrounds depths) ≡ none → Legal depths
-new-legal depths e =
-    let t = none-keeps (newGrounds depths) e in
+new-legal : (places : List Place) → firstOf (newGrounds places) ≡ none → Legal places
+new-legal places e =
+    let t = none-keeps (newGrounds places) e in
     record {
-      count = leb-true 1 (length depths) (both (leb 1 (length depths)) _ (not-false (legalCount (length depths)) (t .0)) .0);
-      room = legal-room depths (t .1 .0);
+      count = leb-true 1 (length places) (both (leb 1 (length places)) _ (not-false (legalCount (length places)) (t .0)) .0);
+      room = legal-room places (t .1 .0);
     }
 
--- From any chain whose FIFOs are empty and of legal depths.
-pub demand3-from : (depths : List ℕ) → firstOf (newGrounds depths) ≡ none → (start : Chain) → value start ≡ well (map empty depths) →
-    (calls : List Done) → Session start calls → Demand3 depths calls
-demand3-from depths accepted start v calls s =
+-- From any chain whose FIFOs are empty and of legal places.
+pub demand3-from : (places : List Place) → firstOf (newGrounds places) ≡ none → (start : Chain) → value start ≡ well (map empty places) →
+    (calls : List Done) → Session start calls → Demand3 places calls
+demand3-from places accepted start v calls s =
     record {
-      answers = λ past rest d e. session-ruled (opened depths) start v past rest d (subst (Session start) e s);
+      answers = λ past rest d e. session-ruled (opened places) start v past rest d (subst (Session start) e s);
       order = λ past rest e. sound past .order;
-      clears = λ past rest c e x. clear-drops-held (length depths) (enteredAll (opened depths) past) c (sound past) x;
+      clears = λ past rest c e x. clear-drops-held (length places) (enteredAll (opened places) past) c (sound past) x;
       outlet = λ past rest before now e y.
-          trace-keeps-rules (map empty depths) (omega (arith, sound [] .size, legal .count)) (cyclesIn calls) past rest before now
-          (sym (session-shows-outlet (opened depths) start v calls s) ∙ e)
+          trace-keeps-rules (map empty places) (omega (arith, sound [] .size, legal .count)) (cyclesIn calls) past rest before now
+          (sym (session-shows-outlet (opened places) start v calls s) ∙ e)
           y;
+      capacity = legal .room;
       delay = λ past stretch rest c e x n enough.
-          stretch-delivers-accepted (length depths) (enteredAll (opened depths) past) c stretch (legal .count) (sound past) x n
+          stretch-delivers-accepted (length places) (enteredAll (opened places) past) c stretch (legal .count) (sound past) x n
           (omega (arith, enough));
     }
   where
-    legal : Legal depths
-    legal = new-legal depths accepted
+    legal : Legal places
+    legal = new-legal places accepted
 
-    sound : (past : List Cycle) → Sound (length depths) (enteredAll (opened depths) past)
-    sound past = sound-all (length depths) (opened depths) past (sound-opened depths (legal .room))
+    sound : (past : List Cycle) → Sound (length places) (enteredAll (opened places) past)
+    sound past = sound-all (length places) (opened places) past (sound-opened places (legal .room))
 
 pub demand3 : Claim
-demand3 depths accepted new made calls s = demand3-from depths accepted (new .chain) (made .gives ∙ rw accepted) calls s
+demand3 places accepted new made calls s = demand3-from places accepted (new .chain) (made .gives ∙ rw accepted) calls s

@@ -1,6 +1,6 @@
--- Demand 3 at work on two FIFOs of depth 2: its bound is met exactly, and a session of steps and runs, two of them refused and one with a
--- clear, meets its hypotheses. Everything computes but the values of FIFOs, which are `fifo`'s affair: it has some FIFO of each
--- (`some-fifo`). Assumes nothing.
+-- Demand 3 at work on a plain FIFO of depth 2 and an early-stall one of depth 4: its bound is met exactly, and a session of steps and
+-- runs, two of them refused and one with a clear, meets its hypotheses; and with capacity 1 the bound fails. Everything computes but the
+-- values of FIFOs, which are `fifo`'s affair: it has some FIFO of each (`some-fifo`). Assumes nothing.
 use Prim.Native.Nat.{ℕ, _-_}
 use native.Mathlib.Omega.{arith}
 use mathlib.Core.Bool.{Bool, true, false, true≢false}
@@ -14,7 +14,8 @@ use Rattle.signals.specs.Refusals.{accepts}
 use Rattle.signals.specs.Payloads.{zeros}
 use Rattle.signals.specs.Stream.{Sample, clearCycle}
 use Rattle.signals.specs.Tables.{firstOf}
-use Rattle.fifo.specs.Queue.{Queue, empty, legalStrbs}
+use Rattle.fifo.specs.declared.Place.{Place}
+use Rattle.fifo.specs.Queue.{Queue, plain, earlyStall, legalPlace, empty, legalStrbs}
 use Rattle.fifo.specs.Queue as queue
 use Rattle.fifo.specs.Promises as fifo
 use Rattle.fifo.proofs.Some.{fifoOf, some-fifo}
@@ -27,8 +28,8 @@ use Rattle.chain.specs.Promises.{value, Made, Done, Promised}
 use Rattle.chain.specs.Demand3.{Ledger, opened, enteredAll, Session, outletsIn, KeepsRules, Drops, Begins, Demand3}
 use Rattle.chain.proofs.Demand3.{demand3}
 
-abbrev depths : List ℕ
-depths = 2 ∷ 2 ∷ []
+abbrev places : List Place
+places = plain 2 ∷ earlyStall 4 ∷ []
 
 abbrev word : ℕ → Payload
 word n = record { «data» = n; strb = 15 }
@@ -43,20 +44,41 @@ abbrev clearing : Cycle
 clearing = record { valid = false; payload = zeros; sink = true; clear = true }
 
 -- accepted with none held: not delivered by the first later sink-ready cycle, but by the second
-one-is-too-few : enteredAll (opened depths) (offering 7 true ∷ idle true ∷ []) .delivered ≡ []
+one-is-too-few : enteredAll (opened places) (offering 7 true ∷ idle true ∷ []) .delivered ≡ []
 one-is-too-few = refl
 
-two-are-enough : enteredAll (opened depths) (offering 7 true ∷ idle true ∷ idle true ∷ []) .delivered ≡ word 7 ∷ []
+two-are-enough : enteredAll (opened places) (offering 7 true ∷ idle true ∷ idle true ∷ []) .delivered ≡ word 7 ∷ []
 two-are-enough = refl
 
 -- a full FIFO does not accept in the cycle in which it pops
-full-mouth : enteredAll (opened (2 ∷ [])) (offering 1 false ∷ offering 2 false ∷ offering 3 true ∷ offering 4 false ∷ []) .accepted
+full-mouth : enteredAll (opened (plain 2 ∷ [])) (offering 1 false ∷ offering 2 false ∷ offering 3 true ∷ offering 4 false ∷ []) .accepted
     ≡ word 1 ∷ word 2 ∷ word 4 ∷ []
 full-mouth = refl
 
+-- an early-stall FIFO of depth 4 takes three, a plain one four
+early-stall-takes-three :
+    (enteredAll (opened (earlyStall 4 ∷ [])) (map (λ n. offering n false) (1 ∷ 2 ∷ 3 ∷ 4 ∷ 5 ∷ [])) .accepted ≡ map word (1 ∷ 2 ∷ 3 ∷ []))
+    × (enteredAll (opened (plain 4 ∷ [])) (map (λ n. offering n false) (1 ∷ 2 ∷ 3 ∷ 4 ∷ 5 ∷ [])) .accepted ≡ map word (1 ∷ 2 ∷ 3 ∷ 4 ∷ []))
+early-stall-takes-three = (refl, refl)
+
+-- Capacities 2 and then 1, which is why an early-stall depth of 2 is refused: 3 is accepted with two held, and is not delivered by the
+-- fourth later sink-ready cycle, but by the fifth.
+abbrev narrow : Ledger
+narrow = enteredAll (opened (plain 2 ∷ earlyStall 2 ∷ [])) (offering 1 false ∷ offering 2 false ∷ offering 3 false ∷ [])
+
+narrow-accepts : narrow .accepted ≡ word 1 ∷ word 2 ∷ word 3 ∷ []
+narrow-accepts = refl
+
+four-are-too-few : enteredAll narrow (idle true ∷ idle true ∷ idle true ∷ idle true ∷ []) .delivered ≡ word 1 ∷ word 2 ∷ []
+four-are-too-few = refl
+
+five-are-enough :
+    enteredAll narrow (idle true ∷ idle true ∷ idle true ∷ idle true ∷ idle true ∷ []) .delivered ≡ word 1 ∷ word 2 ∷ word 3 ∷ []
+five-are-enough = refl
+
 -- held is told from the outlet on, and a clear starts the ledger anew
 abbrev filled : Ledger
-filled = enteredAll (opened depths) (offering 1 false ∷ offering 2 false ∷ offering 3 false ∷ offering 4 true ∷ [])
+filled = enteredAll (opened places) (offering 1 false ∷ offering 2 false ∷ offering 3 false ∷ offering 4 true ∷ [])
 
 filled-order : (filled .accepted ≡ word 1 ∷ word 2 ∷ word 3 ∷ word 4 ∷ [])
     × (filled .delivered ≡ word 1 ∷ [])
@@ -69,13 +91,13 @@ cleared-anew = refl
 -- A session: 9 is accepted in a step, and a run of four cycles delivers it in its third; a clear with a bad strobe and a run that is
 -- lent too little are refused between. A last run accepts 1, clears while 2 is offered, and then accepts 3.
 abbrev none : List Queue
-none = empty 2 ∷ empty 2 ∷ []
+none = empty (plain 2) ∷ empty (earlyStall 4) ∷ []
 
 abbrev nine : List Queue
-nine = record { depth = 2; held = word 9 ∷ [] } ∷ empty 2 ∷ []
+nine = record { place = plain 2; held = word 9 ∷ [] } ∷ empty (earlyStall 4) ∷ []
 
 abbrev three : List Queue
-three = empty 2 ∷ record { depth = 2; held = word 3 ∷ [] } ∷ []
+three = empty (plain 2) ∷ record { place = earlyStall 4; held = word 3 ∷ [] } ∷ []
 
 abbrev accepting : Call
 accepting = step true (word 9) false false
@@ -104,25 +126,25 @@ nothing = sampleOf false false []
 
 -- a chain of some FIFOs that stand for the queues
 abbrev chainOf : List Queue → Chain
-chainOf qs = record { count = length qs; fifos = map fifoOf qs ++ replicate (maxFifos - length qs) (fifoOf (empty 2)) }
+chainOf qs = record { count = length qs; fifos = map fifoOf qs ++ replicate (maxFifos - length qs) (fifoOf (empty (plain 2))) }
 
-empty-value : fifo.value (fifoOf (empty 2)) ≡ queue.well (empty 2)
+empty-value : (place : Place) → legalPlace place ≡ true → fifo.value (fifoOf (empty place)) ≡ queue.well (empty place)
 unfolding legalStrbs
-empty-value = some-fifo (empty 2) refl (omega arith) refl
+empty-value place legal = some-fifo (empty place) legal (omega arith) refl
 
 none-value : value (chainOf none) ≡ well none
 unfolding value
-none-value = rw empty-value
+none-value = rw (empty-value (plain 2) refl, empty-value (earlyStall 4) refl)
 
 nine-value : value (chainOf nine) ≡ well nine
 unfolding value legalStrbs
 nine-value =
-    rw (some-fifo (record { depth = 2; held = word 9 ∷ [] }) refl (omega arith) refl, empty-value)
+    rw (some-fifo (record { place = plain 2; held = word 9 ∷ [] }) refl (omega arith) refl, empty-value (earlyStall 4) refl)
 
 three-value : value (chainOf three) ≡ well three
 unfolding value legalStrbs
 three-value =
-    rw (some-fifo (record { depth = 2; held = word 3 ∷ [] }) refl (omega arith) refl, empty-value)
+    rw (some-fifo (record { place = earlyStall 4; held = word 3 ∷ [] }) refl (omega arith) refl, empty-value (plain 2) refl)
 
 abbrev called : List Queue → Call → List Queue → Done
 called before call after = record { call = call; answered = answer (well before) call; back = chainOf after }
@@ -143,7 +165,7 @@ calls =
 abbrev pub new : NewChain
 new = record { outcome = Accepted; chain = chainOf none }
 
-pub made : Made depths new
+pub made : Made places new
 made = record { refusal = refl; gives = none-value }
 
 pub session : Session (new .chain) calls
@@ -161,8 +183,8 @@ session = (
   ),
 )
 
-pub holds : Demand3 depths calls
-holds = demand3 depths refl new made calls session
+pub holds : Demand3 places calls
+holds = demand3 places refl new made calls session
 
 -- the cycles of the last run
 abbrev clearingTwo : Cycle
@@ -183,12 +205,12 @@ pub nine-stays : KeepsRules (showing false (word 9)) (showing true (word 9))
 nine-stays = holds .outlet (nothing ∷ nothing ∷ []) (sampleOf true false [] ∷ nothing ∷ sampleOf true true [] ∷ nothing ∷ nothing ∷ []) _ _ refl refl
 
 -- what `order` says in the midst of the run
-pub order-midway : let l = enteredAll (opened depths) (offering 9 false ∷ idle false ∷ []) in l .accepted ≡ l .delivered ++ heldIn (l .line)
+pub order-midway : let l = enteredAll (opened places) (offering 9 false ∷ idle false ∷ []) in l .accepted ≡ l .delivered ++ heldIn (l .line)
 order-midway = holds .order (offering 9 false ∷ idle false ∷ []) (idle false ∷ idle true ∷ idle true ∷ lastRun) refl
 
 -- what `delay` says: n = 0 and k = 2, and the sink is ready twice
 pub nine-delivered :
-    Begins (word 9 ∷ []) (enteredAll (opened depths) (offering 9 false ∷ idle false ∷ idle false ∷ idle true ∷ idle true ∷ []) .delivered)
+    Begins (word 9 ∷ []) (enteredAll (opened places) (offering 9 false ∷ idle false ∷ idle false ∷ idle true ∷ idle true ∷ []) .delivered)
 nine-delivered =
     holds .delay [] (idle false ∷ idle false ∷ idle true ∷ idle true ∷ []) lastRun (offering 9 false) refl refl
     (refl, (refl, (refl, (refl, tt))))
@@ -198,5 +220,5 @@ nine-delivered =
 abbrev beforeClear : List Cycle
 beforeClear = offering 9 false ∷ idle false ∷ idle false ∷ idle true ∷ idle true ∷ offering 1 false ∷ []
 
-pub one-dropped : (dropped : List Payload) → Drops (enteredAll (opened depths) beforeClear) clearingTwo dropped ↔ (dropped ≡ word 1 ∷ [])
+pub one-dropped : (dropped : List Payload) → Drops (enteredAll (opened places) beforeClear) clearingTwo dropped ↔ (dropped ≡ word 1 ∷ [])
 one-dropped = holds .clears beforeClear (offering 3 false ∷ idle false ∷ []) clearingTwo refl refl .drops-held

@@ -9,21 +9,22 @@ use mathlib.Core.Path.{_≡_, refl, sym, _∙_, ap, ap₂}
 use lib.ListN.{length, length-append, length-map}
 use Rattle.signals.specs.declared.Payload.{Payload}
 use Rattle.signals.proofs.Bools.{both}
-use Rattle.fifo.specs.Queue.{Queue, when, empty, emptied, shown}
-use Rattle.chain.specs.Line.{mouth, cycle, heldIn}
+use Rattle.fifo.specs.declared.Place.{Place}
+use Rattle.fifo.specs.Queue.{Queue, when, plain, empty, emptied, shown}
+use Rattle.chain.specs.Line.{mouth, cycle, heldIn, CapacityAtLeast2}
 use Rattle.chain.specs.Cycles.{Cycle, offered, readyIn, acceptedIn, deliveredIn, after, afterAll}
 use Rattle.chain.specs.Demand3.{Ledger, opened, entered, enteredAll, readies, NoClear, Begins, Drops, Clears}
 use Rattle.chain.proofs.Order.{leaving, entering, cycle-order}
-use Rattle.chain.proofs.Need.{count, need, Roomy, ticks, need-ahead, need-bound, need-none, need-falls, falls-ticks, cycle-length, cycle-count}
+use Rattle.chain.proofs.Need.{count, need, ticks, need-ahead, need-bound, need-none, need-falls, falls-ticks, cycle-length, cycle-count}
 
 -- What every cycle keeps: the order, the number k of FIFOs, and their room.
 pub record Sound (k : ℕ) (l : Ledger) : Type 0 where
   pub order : l .accepted ≡ l .delivered ++ heldIn (l .line)
   pub size : length (l .line) ≡ k
-  pub room : Roomy (l .line)
+  pub room : CapacityAtLeast2 (l .line)
 
 -- A line that is emptied.
-emptied-room : (qs : List Queue) → Roomy qs → Roomy (map emptied qs)
+emptied-room : (qs : List Queue) → CapacityAtLeast2 qs → CapacityAtLeast2 (map emptied qs)
 emptied-room [] room = tt
 emptied-room (q ∷ qs) room = (room .0, emptied-room qs (room .1))
 
@@ -31,7 +32,7 @@ emptied-holds-none : (qs : List Queue) → heldIn (map emptied qs) ≡ []
 emptied-holds-none [] = refl
 emptied-holds-none (q ∷ qs) = append-nil (heldIn (map emptied qs)) ∙ emptied-holds-none qs
 
-cycle-room : (qs : List Queue) → Roomy qs → (offer : List Payload) (sink : Bool) → Roomy (cycle qs offer sink)
+cycle-room : (qs : List Queue) → CapacityAtLeast2 qs → (offer : List Payload) (sink : Bool) → CapacityAtLeast2 (cycle qs offer sink)
 cycle-room [] room offer sink = tt
 cycle-room (q ∷ qs) room offer sink = (room .0, cycle-room qs (room .1) (shown q) sink)
 
@@ -103,8 +104,8 @@ stretch-delivers k l m (c ∷ cs) s h n enough =
 
     fall : need (cycle (l .line) (offered c) (c .sink)) (m - gone) ≤ need (l .line) m - ticks (c .sink)
     fall =
-        rw (need-ahead (empty 2) (l .line) m h) at
-        (falls-ticks (c .sink) _ _ (need-falls (l .line) (s .room) (empty 2) (offered c) (c .sink) m (offered-one c) (omega arith)))
+        rw (need-ahead (empty (plain 2)) (l .line) m h) at
+        (falls-ticks (c .sink) _ _ (need-falls (l .line) (s .room) (empty (plain 2)) (offered c) (c .sink) m (offered-one c) (omega arith)))
 
     less : need (entered l c .line) (m - gone) ≤ readies cs
     less = rw (n .0) (omega (arith, fall))
@@ -208,12 +209,12 @@ clear-drops-held k l c s e =
         rw (accepts-none, delivers-none, holds-none, append-nil (l .accepted), append-nil (l .delivered), append-nil (l .delivered ++ dropped)) at d
 
 -- The start, and how ledgers follow one another.
-empty-holds-none : (depths : List ℕ) → heldIn (map empty depths) ≡ []
+empty-holds-none : (places : List Place) → heldIn (map empty places) ≡ []
 empty-holds-none [] = refl
 empty-holds-none (d ∷ ds) = append-nil (heldIn (map empty ds)) ∙ empty-holds-none ds
 
-pub sound-opened : (depths : List ℕ) → Roomy (map empty depths) → Sound (length depths) (opened depths)
-sound-opened depths room = record { order = sym (empty-holds-none depths); size = length-map depths empty; room = room }
+pub sound-opened : (places : List Place) → CapacityAtLeast2 (map empty places) → Sound (length places) (opened places)
+sound-opened places room = record { order = sym (empty-holds-none places); size = length-map places empty; room = room }
 
 pub entered-append : (l : Ledger) (cs ds : List Cycle) → enteredAll l (cs ++ ds) ≡ enteredAll (enteredAll l cs) ds
 entered-append l [] ds = refl

@@ -11,7 +11,7 @@ use lib.ListN.{length, length-append}
 use borrow.Author.Tests.{ltb-false, leb-true, leb-false, le-leb, lt-leb}
 use Rattle.signals.specs.declared.Payload.{Payload}
 use Rattle.fifo.specs.Queue.{Queue, when, oldest, capacity, shown, next}
-use Rattle.chain.specs.Line.{mouth, cycle, heldIn}
+use Rattle.chain.specs.Line.{mouth, cycle, heldIn, CapacityAtLeast2}
 use Rattle.chain.proofs.Order.{leaving, entering, cycle-order}
 
 -- held in all FIFOs
@@ -22,11 +22,6 @@ count qs = length (heldIn qs)
 abbrev pub need : List Queue → ℕ → ℕ
 need [] m = 0
 need (q ∷ qs) m = cond (leb m (count qs)) (need qs m) ((m - count qs) + max (need qs (count qs)) (length qs))
-
--- each FIFO may hold two or more
-abbrev pub Roomy : List Queue → Type 0
-Roomy [] = Unit {0}
-Roomy (q ∷ qs) = (2 ≤ capacity q) × Roomy qs
 
 -- a sink-ready cycle counts
 abbrev pub ticks : Bool → ℕ
@@ -82,13 +77,13 @@ shown-one q = of-held (q .held)
     of-held (p ∷ ps) = omega arith
 
 -- Capacity 2 enters here: a mouth that is not ready holds two or more, and they need longer than the way alone.
-full-needs : (qs : List Queue) → Roomy qs → mouth qs true ≡ false → length qs < need qs (count qs)
+full-needs : (qs : List Queue) → CapacityAtLeast2 qs → mouth qs true ≡ false → length qs < need qs (count qs)
 full-needs [] room e = absurd (true≢false e)
 full-needs (q ∷ qs) room e =
-    let full : capacity q ≤ length (q .held) = ltb-false (length (q .held)) (capacity q) e in
+    let full : capacity (q .place) ≤ length (q .held) = ltb-false (length (q .held)) (capacity (q .place)) e in
     rw (need-mouth q qs (count (q ∷ qs)) (omega (arith, count-mouth q qs, room .0))) (omega (arith, count-mouth q qs, room .0))
 
-blocked-needs : (qs : List Queue) → Roomy qs → (sink : Bool) → mouth qs sink ≡ false →
+blocked-needs : (qs : List Queue) → CapacityAtLeast2 qs → (sink : Bool) → mouth qs sink ≡ false →
     length qs + ticks sink ≤ max (need qs (count qs)) (length qs)
 blocked-needs qs room true e = omega (arith, full-needs qs room e)
 blocked-needs qs room false e = omega arith
@@ -100,7 +95,7 @@ data Move (held moving ahead tick needed : ℕ) : Type 0 where
   movesOne : 1 ≤ held → moving ≡ 1 → Move held moving ahead tick needed
   isBlocked : 1 ≤ held → moving ≡ 0 → ahead + tick ≤ max needed ahead → Move held moving ahead tick needed
 
-move : (qs : List Queue) → Roomy qs → (q : Queue) (sink : Bool) →
+move : (qs : List Queue) → CapacityAtLeast2 qs → (q : Queue) (sink : Bool) →
     Move (length (q .held)) (length (entering qs (shown q) sink)) (length qs) (ticks sink) (need qs (count qs))
 move qs room q sink = of-held (q .held)
   where
@@ -167,7 +162,7 @@ falls-wire s offer false m one h = omega arith
 
 -- The fall: a sink-ready cycle lowers `need` by one exactly, any other does not raise it, also of the payload that just enters.
 -- s is whatever stands behind the line, from where that payload comes.
-pub need-falls : (qs : List Queue) → Roomy qs → (s : Queue) (offer : List Payload) (sink : Bool) (m : ℕ) →
+pub need-falls : (qs : List Queue) → CapacityAtLeast2 qs → (s : Queue) (offer : List Payload) (sink : Bool) (m : ℕ) →
     length offer ≤ 1 → m ≤ count qs + length (entering qs offer sink) →
     Falls sink (need (cycle qs offer sink) (m - length (leaving qs offer sink))) (need (s ∷ qs) m)
 need-falls [] room s offer sink m one h = falls-wire s offer sink m one (omega arith)

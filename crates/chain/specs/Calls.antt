@@ -1,4 +1,4 @@
--- Document 01, "The stage and the line" and "Refusal numbers", with request T-09: the calls on a line, why each is refused, and what
+-- Document 01, "The stage and the line" and "Refusal numbers", with requests T-08 and T-09: the calls on a line, why each is refused, and what
 -- each answers. Assumes nothing.
 use Prim.Native.Nat.{ℕ, _+_, _*_}
 use mathlib.Core.Bool.{Bool, true, false, cond, not, _&&_, _||_}
@@ -11,7 +11,8 @@ use Rattle.signals.specs.Refusals.{accepts, maxCycles, anyOf}
 use Rattle.signals.specs.Payloads.{zeros, legalStrb}
 use Rattle.signals.specs.Stream.{Sample, sample, reservedBit}
 use Rattle.signals.specs.Tables.{Row, _⇐_, firstOf}
-use Rattle.fifo.specs.Queue.{Queue, empty, legalDepth}
+use Rattle.fifo.specs.declared.Place.{Place}
+use Rattle.fifo.specs.Queue.{Queue, empty, plain, legalPlace}
 use Rattle.chain.specs.Cycles.{Cycle, readyIn, outletIn, outletTrace, afterAll}
 
 -- one to sixteen FIFOs
@@ -35,15 +36,15 @@ queues ill = []
 queues (well qs) = qs
 
 -- the grounds for refusing a new line, in the order in which they are tried
-abbrev pub newGrounds : (depths : List ℕ) → List (Row ℕ)
-newGrounds depths =
-    5 ⇐ not (legalCount (length depths))
-    ∷ 4 ⇐ anyOf (λ d. not (legalDepth d)) depths
+abbrev pub newGrounds : (places : List Place) → List (Row ℕ)
+newGrounds places =
+    5 ⇐ not (legalCount (length places))
+    ∷ 4 ⇐ anyOf (λ place. not (legalPlace place)) places
     ∷ []
 
--- it is empty; refused, it is one empty FIFO of depth 2
-abbrev pub newLine : (depths : List ℕ) → List Queue
-newLine depths = cond (accepts (firstOf (newGrounds depths))) (map empty depths) (empty 2 ∷ [])
+-- it is empty; refused, it is one empty plain FIFO of depth 2
+abbrev pub newLine : (places : List Place) → List Queue
+newLine places = cond (accepts (firstOf (newGrounds places))) (map empty places) (empty (plain 2) ∷ [])
 
 -- A step with its arguments, or a run with its lent sequences and what its two lent outputs hold.
 pub data Call : Type 0 where

@@ -1,4 +1,4 @@
--- Demand 3 of document 01, with request T-09: between clears a line of FIFOs loses, invents, reorders and overdelays nothing, and a clear
+-- Demand 3 of document 01, with requests T-08 and T-09: between clears a line of FIFOs loses, invents, reorders and overdelays nothing, and a clear
 -- drops exactly what is held. One claim about a whole list of steps and runs on one chain; it is proved in `proofs/Demand3.antt`.
 -- Assumes nothing.
 use Prim.Native.Nat.{ℕ, _+_, _≤_}
@@ -13,10 +13,11 @@ use Rattle.signals.specs.Refusals.{accepts}
 use Rattle.signals.specs.Stream.{Sample, sample, clearCycle}
 use Rattle.signals.specs.Tables.{firstOf}
 use Rattle.stream_checker.specs.Rules.{breaksHeld, breaksStable}
+use Rattle.fifo.specs.declared.Place.{Place}
 use Rattle.fifo.specs.Queue.{Queue, empty}
 use Rattle.chain.specs.declared.Chain.{Chain}
 use Rattle.chain.specs.declared.NewChain.{NewChain}
-use Rattle.chain.specs.Line.{heldIn}
+use Rattle.chain.specs.Line.{heldIn, CapacityAtLeast2}
 use Rattle.chain.specs.Cycles.{Cycle, readyIn, acceptedIn, deliveredIn, after}
 use Rattle.chain.specs.Calls.{Call, step, run, Answer, well, grounds, asked, answer, newGrounds}
 use Rattle.chain.specs.Promises.{value, Made, Done, Promised}
@@ -27,8 +28,8 @@ pub record Ledger : Type 0 where
   pub accepted : List Payload
   pub delivered : List Payload
 
-abbrev pub opened : (depths : List ℕ) → Ledger
-opened depths = record { line = map empty depths; accepted = []; delivered = [] }
+abbrev pub opened : (places : List Place) → Ledger
+opened places = record { line = map empty places; accepted = []; delivered = [] }
 
 -- a cycle's entry; a clear starts the ledger anew
 abbrev pub entered : Ledger → Cycle → Ledger
@@ -123,29 +124,32 @@ pub record Ruled (l : Ledger) (d : Done) : Type 0 where
   pub gives : value (d .back) ≡ well (enteredAll l (cyclesOf d) .line)
   pub not6 : refusalIn (d .call) (d .answered) ≡ some 6 → ⊥
 
-pub record Demand3 (depths : List ℕ) (calls : List Done) : Type 0 where
+pub record Demand3 (places : List Place) (calls : List Done) : Type 0 where
   -- after every call
   pub answers : (past rest : List Done) (d : Done) → calls ≡ past ++ d ∷ rest →
-      Ruled (enteredAll (opened depths) (cyclesIn past)) d
+      Ruled (enteredAll (opened places) (cyclesIn past)) d
   -- after every cycle: accepted is, in order, delivered followed by held
   pub order : (past rest : List Cycle) → cyclesIn calls ≡ past ++ rest →
-      let l = enteredAll (opened depths) past in
+      let l = enteredAll (opened places) past in
       l .accepted ≡ l .delivered ++ heldIn (l .line)
   -- at every clear
   pub clears : (past rest : List Cycle) (c : Cycle) → cyclesIn calls ≡ past ++ c ∷ rest → c .clear ≡ true →
-      Clears (enteredAll (opened depths) past) c
+      Clears (enteredAll (opened places) past) c
   -- between neighbouring cycles, from one call to the next too; a clear cycle is not judged, and by the rules lays no duty
   pub outlet : (past rest : List Sample) (before now : Sample) → outletsIn calls ≡ past ++ before ∷ now ∷ rest →
       clearCycle now ≡ false → KeepsRules before now
+  -- the line's FIFOs have capacity at least 2, on which the delay rests
+  pub capacity : CapacityAtLeast2 (opened places .line)
   -- accepted in cycle c with n held: delivered by the (n + k)th later cycle in which the sink is ready
   pub delay : (past stretch rest : List Cycle) (c : Cycle) → cyclesIn calls ≡ past ++ c ∷ stretch ++ rest →
-      let l = enteredAll (opened depths) past in
+      let l = enteredAll (opened places) past in
       (c .valid && readyIn (l .line) c) ≡ true → NoClear stretch →
-      length (heldIn (l .line)) + length depths ≤ readies stretch →
+      length (heldIn (l .line)) + length places ≤ readies stretch →
       Begins (entered l c .accepted) (enteredAll (entered l c) stretch .delivered)
 
--- The claim: for every list of depths that `Chain::new` accepts, every chain that it gives, and every session on that chain.
+-- The claim: for every list of places that `Chain::new` accepts, of either kind in any mix, every chain that it gives, and every session
+-- on that chain.
 abbrev pub Claim : Type 0
 Claim =
-    (depths : List ℕ) → firstOf (newGrounds depths) ≡ none → (new : NewChain) → Made depths new →
-    (calls : List Done) → Session (new .chain) calls → Demand3 depths calls
+    (places : List Place) → firstOf (newGrounds places) ≡ none → (new : NewChain) → Made places new →
+    (calls : List Done) → Session (new .chain) calls → Demand3 places calls

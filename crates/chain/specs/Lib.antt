@@ -3,5 +3,6 @@ pub mod Line
 pub mod Cycles
 pub mod Calls
 pub mod Promises
+pub mod Listing
 pub mod Cycling
 pub mod Demand3

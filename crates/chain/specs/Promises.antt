@@ -1,4 +1,4 @@
--- What `Chain::new`, `Chain::step` and `Chain::run` promise. FIFOs past the count of a chain that is handed back are free,
+-- What `Chain::new`, `Chain::at`, `Chain::step` and `Chain::run` promise. FIFOs past the count of a chain that is handed back are free,
 -- unless the call was refused. Assumes nothing.
 use Prim.Native.Nat.{ℕ}
 use mathlib.Core.Bool.{Bool, false, cond}
@@ -8,9 +8,11 @@ use lib.ListN.{take}
 use Rattle.signals.specs.declared.Payload.{Payload}
 use Rattle.signals.specs.Refusals.{refusalOf, accepts}
 use Rattle.signals.specs.Tables.{firstOf}
+use Rattle.fifo.specs.declared.Place.{Place}
 use Rattle.fifo.specs.Queue as queue
 use Rattle.fifo.specs.Promises as fifo
 use Rattle.chain.specs.declared.Chain.{Chain}
+use Rattle.chain.specs.declared.Places.{Places}
 use Rattle.chain.specs.declared.NewChain.{NewChain}
 use Rattle.chain.specs.declared.Stepped.{Stepped}
 use Rattle.chain.specs.declared.Ran.{Ran}
@@ -30,9 +32,13 @@ lineOf (queue.well q ∷ vs) = before q (lineOf vs)
 unfoldable pub value : Chain → Value
 value chain = cond (legalCount (chain .count)) (lineOf (map fifo.value (take (chain .count) (chain .fifos)))) ill
 
-pub record Made (depths : List ℕ) (r : NewChain) : Type 0 where
-  pub refusal : refusalOf (r .outcome) ≡ firstOf (newGrounds depths)
-  pub gives : value (r .chain) ≡ well (newLine depths)
+-- the places that are listed by value; none where their count is not legal, which is refused as an empty list is
+abbrev pub placesOf : Places → List Place
+placesOf places = cond (legalCount (places .count)) (take (places .count) (places .listed)) []
+
+pub record Made (places : List Place) (r : NewChain) : Type 0 where
+  pub refusal : refusalOf (r .outcome) ≡ firstOf (newGrounds places)
+  pub gives : value (r .chain) ≡ well (newLine places)
 
 -- A call that was made, with what it answered and the chain that it gave back.
 pub record Done : Type 0 where

@@ -2,15 +2,16 @@
 ghost use mathlib.Core.Path.{_≡_};
 ghost use mathlib.Core.Bool.{true};
 ghost use mathlib.Core.List.{[], _∷_};
-ghost use lib.ListN.{length};
+ghost use lib.ListN.{take};
 ghost use Rattle.signals.specs.Refusals.{refusalOf, accepts};
-ghost use Rattle.fifo.specs.Queue.{empty};
+ghost use Rattle.fifo.specs.Queue.{plain, empty};
 ghost use Rattle.chain.specs.Calls.{well, legalCount};
 ghost use Rattle.chain.specs.Promises.{value, Made};
 use super::Chain;
 use super::MAX_FIFOS;
 use super::NewChain;
 use fifo::Fifo;
+use fifo::Place;
 use signals::Outcome;
 
 pub(crate) fn is_accepted(outcome: Outcome) -> bool
@@ -23,11 +24,15 @@ pub(crate) fn is_accepted(outcome: Outcome) -> bool
 }
 
 impl Chain {
-    // One empty FIFO of depth 2.
+    // One empty plain FIFO of depth 2.
     pub(crate) fn shortest() -> Chain
-        ensures { λ r. ⌜ value r ≡ well (empty 2 ∷ []) ⌝ }
+        ensures { λ r. ⌜ value r ≡ well (empty (plain 2) ∷ []) ⌝ }
     {
-        let made = Fifo::new(2);
+        let smallest = Place {
+            depth: 2,
+            early_stall: false,
+        };
+        let made = Fifo::new(smallest);
         let two = made.fifo;
         let fifos = [two; MAX_FIFOS];
         Chain {
@@ -36,16 +41,17 @@ impl Chain {
         }
     }
 
-    // An empty FIFO of each depth, unless one of the depths is refused.
-    pub(crate) fn of_depths(depths: &[usize]) -> NewChain
-        requires { ⌜ legalCount (length (now depths)) ≡ true ⌝ }
-        ensures { λ r. ⌜ Made (now (depths .entry)) r ⌝ }
+    // An empty FIFO at each place, unless one of the places is refused.
+    pub(crate) fn at_each(listed: [Place; MAX_FIFOS], count: usize) -> NewChain
+        requires { ⌜ legalCount count ≡ true ⌝ }
+        ensures { λ r. ⌜ Made (take count listed) r ⌝ }
     {
         let mut chain = Chain::shortest();
         chain.has_all();
         let mut i = 0;
-        while i < depths.len() {
-            let made = Fifo::new(depths[i]);
+        while i < count {
+            let place = listed[i];
+            let made = Fifo::new(place);
             let outcome = made.outcome;
             if is_accepted(outcome) {
                 let f = made.fifo;
@@ -58,7 +64,7 @@ impl Chain {
                 };
             }
         }
-        chain.count = depths.len();
+        chain.count = count;
         NewChain {
             outcome: Outcome::Accepted,
             chain: chain,

@@ -9,6 +9,7 @@ ghost use Rattle.chain.specs.Cycling.{Roomy, lineIn};
 use super::Chain;
 use super::MAX_FIFOS;
 use fifo::MAX_DEPTH;
+use fifo::Place;
 use fifo::Pointers;
 
 // The slots of all parts.
@@ -23,8 +24,12 @@ impl Chain {
     {
         self.has_all();
         let count = self.count;
-        let none = Pointers {
+        let nowhere = Place {
             depth: 0,
+            early_stall: false,
+        };
+        let none = Pointers {
+            place: nowhere,
             count: 0,
             oldest: 0,
         };

@@ -1,20 +1,22 @@
 // One to sixteen FIFOs in a row, a cycle or a trace at a time.
 //
-// Writes out the line of "The stage and the line" of document 01, with requests T-06 and T-09. The crate sees of a FIFO its value and its
+// Writes out the line of "The stage and the line" of document 01, with requests T-06, T-08 and T-09. The crate sees of a FIFO its value and its
 // promise (`Queue` and `Promises` of `fifo`), and nothing of how it is kept. Demand 3 stands in `specs/Demand3.antt`.
 mod cycle;
 mod empty;
 mod form;
 mod laid;
+mod lent;
 mod trace;
 
 ghost use mathlib.Core.Path.{_≡_};
 ghost use mathlib.Core.Bool.{false};
 ghost use Rattle.signals.specs.declared.Outcome.the-variants.{Refused};
 ghost use Rattle.signals.specs.Payloads.{zeros};
-ghost use Rattle.chain.specs.Promises.{Made, Promised, stepDone, runDone};
+ghost use Rattle.chain.specs.Promises.{placesOf, Made, Promised, stepDone, runDone};
 use empty::is_accepted;
 use fifo::Fifo;
+use fifo::Place;
 use form::is_legal_count;
 use signals::MAX_STRB;
 use signals::Outcome;
@@ -29,6 +31,12 @@ pub const MAX_FIFOS: usize = 16;
 pub struct Chain {
     pub count: usize,
     pub fifos: [Fifo; MAX_FIFOS],
+}
+
+// The places of a chain, the mouth's first: the first `count` of them.
+pub struct Places {
+    pub count: usize,
+    pub listed: [Place; MAX_FIFOS],
 }
 
 pub struct NewChain {
@@ -52,12 +60,21 @@ pub struct Ran {
 }
 
 impl Chain {
-    // A chain of empty FIFOs, the mouth's depth first. Refused, it is one FIFO of depth 2.
-    pub fn new(depths: &[usize]) -> NewChain
-        ensures { λ r. ⌜ Made (now (depths .entry)) r ⌝ }
+    // A chain of empty FIFOs, the mouth's place first. Refused, it is one plain FIFO of depth 2.
+    pub fn new(places: &[Place]) -> NewChain
+        ensures { λ r. ⌜ Made (now (places .entry)) r ⌝ }
     {
-        if is_legal_count(depths.len()) {
-            return Chain::of_depths(depths);
+        let read = Places::read(places);
+        Chain::at(read)
+    }
+
+    // The same by value, for a caller who has no list to lend. Places past the count are not looked at.
+    pub fn at(places: Places) -> NewChain
+        ensures { λ r. ⌜ Made (placesOf places) r ⌝ }
+    {
+        if is_legal_count(places.count) {
+            let listed = places.listed;
+            return Chain::at_each(listed, places.count);
         }
         NewChain {
             outcome: Outcome::Refused(Refusal::BadCount),

@@ -1,12 +1,14 @@
 // Runs the Run examples of document 01, "Bench examples": the depths of a FIFO and the length of a trace that are accepted; for
-// request T-05, bursts longer than a trace; for request T-06, new and handed-in FIFOs and chains at their limits; and, for
-// request T-09, a chain's run with a clear in its midst.
+// request T-05, bursts longer than a trace; for request T-06, new and handed-in FIFOs and chains at their limits; for request T-08,
+// early-stall FIFOs and a mixed chain; and, for request T-09, a chain's run with a clear in its midst.
 //
 // P1 to P12 and C1 to C6 are shown in `specs/Bench.antt`, and streams cut into bursts in `specs/Bursts.antt`.
 use chain::Chain;
 use chain::MAX_FIFOS;
+use chain::Places;
 use fifo::Fifo;
 use fifo::MAX_DEPTH;
+use fifo::Place;
 use libc::STDOUT_FILENO;
 use monitor::MAX_SEEN;
 use monitor::Monitor;
@@ -46,35 +48,67 @@ fn print_outcome(outcome: Outcome) {
     }
 }
 
-// Asks for a new FIFO of a depth.
-fn run_depth(depth: usize) {
-    print_case(b"depth ", depth);
-    let outcome = Fifo::new(depth).outcome;
+fn plain(depth: usize) -> Place {
+    Place {
+        depth: depth,
+        early_stall: false,
+    }
+}
+
+fn early_stall(depth: usize) -> Place {
+    Place {
+        depth: depth,
+        early_stall: true,
+    }
+}
+
+fn print_place(name: &[u8], place: Place) {
+    io::write_all(STDOUT_FILENO, name);
+    if place.early_stall {
+        io::write_all(STDOUT_FILENO, b"early-stall ");
+    }
+    print_case(b"depth ", place.depth);
+}
+
+// Asks for a new FIFO.
+fn run_new(place: Place) {
+    print_place(b"", place);
+    let outcome = Fifo::new(place).outcome;
     print_outcome(outcome);
 }
 
-// Steps a FIFO that is handed in with a depth.
-fn run_handed_in_depth(depth: usize) {
-    print_case(b"handed-in depth ", depth);
-    let mut fifo = Fifo::new(2).fifo;
-    fifo.depth = depth;
+// Steps a FIFO that is handed in at a place, with so many held. Its strobes are legal.
+fn run_handed_in(place: Place, held: usize) {
+    print_place(b"handed-in ", place);
+    print_case(b" holding ", held);
+    let mut fifo = Fifo::new(plain(2)).fifo;
+    fifo.place = place;
+    fifo.count = held;
     let offer = Payload { data: 1, strb: 15 };
     let outcome = fifo.step(true, offer, true, false).outcome;
     print_outcome(outcome);
 }
 
-// Asks for a new chain of FIFOs of these depths.
-fn run_chain(of: &[u8], depths: &[usize]) {
-    print_case(b"FIFOs ", depths.len());
+// Asks for a new chain of so many FIFOs at these places.
+fn run_chain(of: &[u8], count: usize, listed: [Place; MAX_FIFOS]) {
+    print_case(b"FIFOs ", count);
     io::write_all(STDOUT_FILENO, of);
-    let outcome = Chain::new(depths).outcome;
+    let places = Places {
+        count: count,
+        listed: listed,
+    };
+    let outcome = Chain::at(places).outcome;
     print_outcome(outcome);
 }
 
 // Steps a chain that is handed in with a number of FIFOs.
 fn run_handed_in_chain(count: usize) {
     print_case(b"handed-in FIFOs ", count);
-    let mut chain = Chain::new(&[MAX_DEPTH; MAX_FIFOS]).chain;
+    let places = Places {
+        count: MAX_FIFOS,
+        listed: [plain(MAX_DEPTH); MAX_FIFOS],
+    };
+    let mut chain = Chain::at(places).chain;
     chain.count = count;
     let offer = Payload { data: 1, strb: 15 };
     let outcome = chain.step(true, offer, true, false).outcome;
@@ -120,14 +154,18 @@ fn print_cycle(control: u8, data: u32) {
     io::write_all(STDOUT_FILENO, b"\n");
 }
 
-// A run of two FIFOs: two payloads, a clear with a third while the outlet stalls, and a fourth. Prints the outlet's trace.
+// A run of two plain FIFOs: two payloads, a clear with a third while the outlet stalls, and a fourth. Prints the outlet's trace.
 fn run_clear() {
     let control: [u8; WITH_CLEAR] = [0xf1, 0xf1, 0x00, 0xf5, 0xf1, 0x00, 0x00];
     let data: [u32; WITH_CLEAR] = [0x11, 0x12, 0x00, 0x13, 0x14, 0x00, 0x00];
     let sink: [u8; WITH_CLEAR] = [1, 0, 0, 0, 1, 1, 1];
     let mut out_control = [0u8; WITH_CLEAR];
     let mut out_data = [0u32; WITH_CLEAR];
-    let chain = Chain::new(&[2, 2]).chain;
+    let places = Places {
+        count: 2,
+        listed: [plain(2); MAX_FIFOS],
+    };
+    let chain = Chain::at(places).chain;
     print_case(b"chain cycles ", WITH_CLEAR);
     let outcome = chain
         .run(&control, &data, &sink, &mut out_control, &mut out_data)
@@ -144,43 +182,61 @@ fn run_clear() {
 
 // FIFOs of legal depths, then of illegal ones: new ones, and ones that are handed in.
 fn run_depths() {
-    run_depth(2);
-    run_depth(16);
-    run_depth(18);
-    run_depth(64);
-    run_depth(0);
-    run_depth(3);
-    run_depth(17);
-    run_depth(65);
-    run_depth(66);
-    run_handed_in_depth(18);
-    run_handed_in_depth(64);
-    run_handed_in_depth(17);
-    run_handed_in_depth(65);
-    run_handed_in_depth(66);
+    run_new(plain(2));
+    run_new(plain(16));
+    run_new(plain(18));
+    run_new(plain(64));
+    run_new(plain(0));
+    run_new(plain(3));
+    run_new(plain(17));
+    run_new(plain(65));
+    run_new(plain(66));
+    run_handed_in(plain(18), 0);
+    run_handed_in(plain(64), 0);
+    run_handed_in(plain(17), 0);
+    run_handed_in(plain(65), 0);
+    run_handed_in(plain(66), 0);
+}
+
+// Early-stall FIFOs: the least depth is 4, and one fewer than the depth are held.
+fn run_early_stall() {
+    run_new(early_stall(4));
+    run_new(early_stall(64));
+    run_new(early_stall(2));
+    run_new(early_stall(5));
+    run_new(early_stall(66));
+    run_handed_in(early_stall(4), 3);
+    run_handed_in(early_stall(4), 4);
+    run_handed_in(plain(4), 4);
+    run_handed_in(early_stall(2), 0);
+    run_handed_in(early_stall(2), 1);
 }
 
 // Chains at the limits: new ones, and ones that are handed in.
 fn run_chains() {
-    let deep = [64; TOO_LONG];
-    run_chain(b" of depth 64", &deep[..MAX_FIFOS]);
-    run_chain(
-        b" of depths 2 to 64",
-        &[2, 64, 4, 62, 16, 18, 32, 34, 2, 2, 64, 64, 8, 48, 6, 10],
-    );
-    run_chain(b" of depth 64", &deep);
-    run_chain(b" of depth 3", &[3; TOO_LONG]);
-    run_chain(b"", &deep[..0]);
-    run_chain(
-        b", the last of depth 66",
-        &[2, 2, 2, 2, 2, 2, 2, 2, 2, 2, 2, 2, 2, 2, 2, 66],
-    );
+    let deep = [plain(64); MAX_FIFOS];
+    run_chain(b" of depth 64", 16, deep);
+    let mut mixed = [early_stall(4); MAX_FIFOS];
+    mixed[0] = plain(2);
+    mixed[7] = plain(64);
+    mixed[14] = early_stall(64);
+    run_chain(b", early-stall but for two", 16, mixed);
+    run_chain(b" of depth 64", 17, deep);
+    run_chain(b" of depth 3", 17, [plain(3); MAX_FIFOS]);
+    run_chain(b"", 0, deep);
+    let mut bad = [plain(2); MAX_FIFOS];
+    bad[15] = plain(66);
+    run_chain(b", the last of depth 66", 16, bad);
+    bad[15] = early_stall(2);
+    run_chain(b", the last early-stall of depth 2", 16, bad);
+    run_chain(b", the sixteenth not looked at", 15, bad);
     run_handed_in_chain(16);
     run_handed_in_chain(17);
 }
 
 fn main() {
     run_depths();
+    run_early_stall();
     run_chains();
     let control = [0u8; TOO_MANY];
     let words = [0u32; TOO_MANY];

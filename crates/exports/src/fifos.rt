@@ -10,7 +10,9 @@ ghost use Rattle.exports.specs.Fifos.{newNumbers, stepNumbers};
 ghost use Rattle.exports.specs.Chains as chains;
 ghost use Rattle.exports.specs.Chains.{runNumbers};
 use chain::Chain;
+use chain::NewChain;
 use fifo::Fifo;
+use fifo::Place;
 use signals::Payload;
 
 #[repr(C)]
@@ -53,10 +55,10 @@ pub struct ChainRun {
 }
 
 #[no_mangle]
-pub extern "C" fn floealder_fifo_new(depth: usize) -> FifoNew
-    ensures { λ r. ⌜ InNumbers (λ w. ofFifo.Made depth w) newNumbers r ⌝ }
+pub extern "C" fn floealder_fifo_new(place: Place) -> FifoNew
+    ensures { λ r. ⌜ InNumbers (λ w. ofFifo.Made place w) newNumbers r ⌝ }
 {
-    let made = Fifo::new(depth);
+    let made = Fifo::new(place);
     let outcome = made.outcome;
     let fifo = made.fifo;
     FifoNew {
@@ -95,17 +97,24 @@ pub extern "C" fn floealder_fifo_is_well(fifo: Fifo) -> bool
     fifo.is_well()
 }
 
-#[no_mangle]
-pub extern "C" fn floealder_chain_new(depths: &[usize]) -> ChainNew
-    ensures { λ r. ⌜ InNumbers (λ w. ofChain.Made (now (depths .entry)) w) chains.newNumbers r ⌝ }
+// A new chain in numbers.
+fn new_numbers(made: NewChain) -> ChainNew
+    ensures { λ r. ⌜ r ≡ chains.newNumbers made ⌝ }
 {
-    let made = Chain::new(depths);
     let outcome = made.outcome;
     let chain = made.chain;
     ChainNew {
         refusal: crate::refusal(outcome),
         chain,
     }
+}
+
+#[no_mangle]
+pub extern "C" fn floealder_chain_new(places: &[Place]) -> ChainNew
+    ensures { λ r. ⌜ InNumbers (λ w. ofChain.Made (now (places .entry)) w) chains.newNumbers r ⌝ }
+{
+    let made = Chain::new(places);
+    new_numbers(made)
 }
 
 #[no_mangle]

@@ -24,7 +24,7 @@ use Rattle.fifo.proofs.Stepping.{Served, answer-serves}
 -- the memory has a slot for each place where the pointers stand for a queue
 trusted-of-memory : (p : Pointers) (words strbs : List ℕ) (q : Queue) → trustedIn p words strbs ≡ well q → trusted (fifoIn p words strbs) ≡ well q
 unfolding trustedIn
-trusted-of-memory p words strbs q e = by-test (hasSlots (p .depth) words strbs) e
+trusted-of-memory p words strbs q e = by-test (hasSlots (p .place .depth) words strbs) e
   where
     by-test : (b : Bool) → cond b (trusted (fifoIn p words strbs)) ill ≡ well q → trusted (fifoIn p words strbs) ≡ well q
     by-test true e = e
@@ -51,7 +51,7 @@ unfolding value valueIn
 lays-value f words strbs q r afterWords afterStrbs e h k lays =
     let look = trusted-of-value f q e in
     let deep = depth-within f (trusted-range f q (look .0)) in
-    let room : hasSlots (f .depth) words strbs ≡ true = rw (le-leb (f .depth) (length words) (omega (arith, deep)), le-leb (f .depth) (length strbs) (omega (arith, deep))) in
+    let room : hasSlots (f .place .depth) words strbs ≡ true = rw (le-leb (f .place .depth) (length words) (omega (arith, deep)), le-leb (f .place .depth) (length strbs) (omega (arith, deep))) in
     ap strobesChecked (lays .gives ∙ ap (λ (b : Bool). cond b (trusted f) ill) room) ∙ e
 
 -- and one that is gathered again

@@ -16,7 +16,7 @@ use Rattle.signals.specs.Payloads.{zeros}
 use Rattle.signals.proofs.Bools.{either, both}
 use Rattle.fifo.specs.declared.Fifo.{Fifo}
 use Rattle.fifo.specs.declared.Pointers.{Pointers}
-use Rattle.fifo.specs.Queue.{Value, ill, well, empty}
+use Rattle.fifo.specs.Queue.{Value, ill, well, plain, empty}
 use Rattle.fifo.specs.Ring.{ring, wrapped, fifoWith, queueOf, inRange, trusted}
 use Rattle.fifo.specs.Memory.{slotsIn, fifoIn, hasSlots, trustedIn}
 use Rattle.fifo.proofs.Places.{wrapped-below}
@@ -55,19 +55,19 @@ slots-words depth words strbs e = leb-true depth (length words) (both (leb depth
 pub slots-strbs : (depth : ℕ) (words strbs : List ℕ) → hasSlots depth words strbs ≡ true → depth ≤ length strbs
 slots-strbs depth words strbs e = leb-true depth (length strbs) (both (leb depth (length words)) (leb depth (length strbs)) e .1)
 
-pub trusted-memory : (p : Pointers) (words strbs : List ℕ) → hasSlots (p .depth) words strbs ≡ true → trustedIn p words strbs ≡ trusted (fifoIn p words strbs)
+pub trusted-memory : (p : Pointers) (words strbs : List ℕ) → hasSlots (p .place .depth) words strbs ≡ true → trustedIn p words strbs ≡ trusted (fifoIn p words strbs)
 unfolding trustedIn
 trusted-memory p words strbs e = rw e
 
-pub trusted-no-memory : (p : Pointers) (words strbs : List ℕ) → hasSlots (p .depth) words strbs ≡ false → trustedIn p words strbs ≡ ill
+pub trusted-no-memory : (p : Pointers) (words strbs : List ℕ) → hasSlots (p .place .depth) words strbs ≡ false → trustedIn p words strbs ≡ ill
 unfolding trustedIn
 trusted-no-memory p words strbs e = rw e
 
 -- the two tests of the form together
-pub trusted-formed : (p : Pointers) (words strbs : List ℕ) → (inRange (fifoIn p words strbs) && hasSlots (p .depth) words strbs) ≡ true
+pub trusted-formed : (p : Pointers) (words strbs : List ℕ) → (inRange (fifoIn p words strbs) && hasSlots (p .place .depth) words strbs) ≡ true
     → trustedIn p words strbs ≡ well (queueOf (fifoIn p words strbs))
 trusted-formed p words strbs e =
-    let h = both (inRange (fifoIn p words strbs)) (hasSlots (p .depth) words strbs) e in
+    let h = both (inRange (fifoIn p words strbs)) (hasSlots (p .place .depth) words strbs) e in
     trusted-memory p words strbs (h .1) ∙ trusted-in (fifoIn p words strbs) (h .0)
 
 pub unformed-ill : (f : Fifo) (room : Bool) → (inRange f && room) ≡ false → cond room (trusted f) ill ≡ ill
@@ -78,13 +78,13 @@ unformed-ill f true e = trusted-out f (without (inRange f) e)
     without false n = refl
 unformed-ill f false e = refl
 
-pub trusted-unformed : (p : Pointers) (words strbs : List ℕ) → (inRange (fifoIn p words strbs) && hasSlots (p .depth) words strbs) ≡ false
+pub trusted-unformed : (p : Pointers) (words strbs : List ℕ) → (inRange (fifoIn p words strbs) && hasSlots (p .place .depth) words strbs) ≡ false
     → trustedIn p words strbs ≡ ill
 unfolding trustedIn
-trusted-unformed p words strbs e = unformed-ill (fifoIn p words strbs) (hasSlots (p .depth) words strbs) e
+trusted-unformed p words strbs e = unformed-ill (fifoIn p words strbs) (hasSlots (p .place .depth) words strbs) e
 
--- a depth of 0 is no FIFO's
-pub depth-0-unformed : (count oldest : ℕ) (slots : List Payload) → inRange (record { depth = 0; count = count; oldest = oldest; slots = slots }) ≡ false
+-- a plain place of depth 0 is no FIFO's
+pub depth-0-unformed : (count oldest : ℕ) (slots : List Payload) → inRange (record { place = plain 0; count = count; oldest = oldest; slots = slots }) ≡ false
 unfolding inRange
 depth-0-unformed count oldest slots = refl
 
@@ -94,12 +94,12 @@ pub slots-kept : (depth : ℕ) (words strbs afterWords afterStrbs : List ℕ) �
 slots-kept depth words strbs afterWords afterStrbs e h k = rw (h, k) e
 
 -- pointers that hold none stand for an empty queue
-pub trusted-empty : (p : Pointers) (words strbs : List ℕ) → inRange (fifoIn p words strbs) ≡ true → hasSlots (p .depth) words strbs ≡ true
-    → trustedIn (record { depth = p .depth; count = 0; oldest = p .oldest }) words strbs ≡ well (empty (p .depth))
+pub trusted-empty : (p : Pointers) (words strbs : List ℕ) → inRange (fifoIn p words strbs) ≡ true → hasSlots (p .place .depth) words strbs ≡ true
+    → trustedIn (record { place = p .place; count = 0; oldest = p .oldest }) words strbs ≡ well (empty (p .place))
 trusted-empty p words strbs e room =
     let form = form-of (fifoIn p words strbs) e in
-    trusted-memory (record { depth = p .depth; count = 0; oldest = p .oldest }) words strbs room
-    ∙ count-0-empty (p .depth) (p .oldest) (slotsIn words strbs) (form .depth) (form .oldest)
+    trusted-memory (record { place = p .place; count = 0; oldest = p .oldest }) words strbs room
+    ∙ count-0-empty (p .place) (p .oldest) (slotsIn words strbs) (form .place) (form .oldest)
 
 -- numbers that are in range are so whatever the slots hold
 pub in-range-any : (p : Pointers) (slots others : List Payload) → inRange (fifoWith p slots) ≡ inRange (fifoWith p others)
@@ -121,21 +121,21 @@ ring-alike slots others depth at (suc n) alike h =
     in
     rw (same, ring-alike slots others depth (wrapped depth (at + 1)) n alike (wrapped-below depth at 1 (omega arith)))
 
-pub trusted-alike : (p : Pointers) (slots others : List Payload) → take (p .depth) slots ≡ take (p .depth) others
+pub trusted-alike : (p : Pointers) (slots others : List Payload) → take (p .place .depth) slots ≡ take (p .place .depth) others
     → trusted (fifoWith p slots) ≡ trusted (fifoWith p others)
 trusted-alike p slots others alike = ⊎-elim inside outside (either (inRange (fifoWith p slots)))
   where
     inside : inRange (fifoWith p slots) ≡ true → trusted (fifoWith p slots) ≡ trusted (fifoWith p others)
     inside e =
         trusted-in (fifoWith p slots) e
-        ∙ ap (λ (l : List Payload). well (record { depth = p .depth; held = l }))
-        (ring-alike slots others (p .depth) (p .oldest) (p .count) alike (form-of (fifoWith p slots) e .oldest))
+        ∙ ap (λ (l : List Payload). well (record { place = p .place; held = l }))
+        (ring-alike slots others (p .place .depth) (p .oldest) (p .count) alike (form-of (fifoWith p slots) e .oldest))
         ∙ sym (trusted-in (fifoWith p others) (in-range-any p others slots ∙ e))
 
     outside : inRange (fifoWith p slots) ≡ false → trusted (fifoWith p slots) ≡ trusted (fifoWith p others)
     outside e = trusted-out (fifoWith p slots) e ∙ sym (trusted-out (fifoWith p others) (in-range-any p others slots ∙ e))
 
 -- slots that were copied stand for what they were copied from
-pub trusted-copied : (p : Pointers) (slots : List Payload) (words strbs : List ℕ) → hasSlots (p .depth) words strbs ≡ true
-    → take (p .depth) (slotsIn words strbs) ≡ take (p .depth) slots → trustedIn p words strbs ≡ trusted (fifoWith p slots)
+pub trusted-copied : (p : Pointers) (slots : List Payload) (words strbs : List ℕ) → hasSlots (p .place .depth) words strbs ≡ true
+    → take (p .place .depth) (slotsIn words strbs) ≡ take (p .place .depth) slots → trustedIn p words strbs ≡ trusted (fifoWith p slots)
 trusted-copied p slots words strbs room alike = trusted-memory p words strbs room ∙ trusted-alike p (slotsIn words strbs) slots alike

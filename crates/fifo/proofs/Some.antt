@@ -11,7 +11,7 @@ use lib.Seq.{drop-cons, take-at}
 use Rattle.signals.specs.declared.Payload.{Payload}
 use Rattle.signals.specs.Payloads.{zeros}
 use Rattle.fifo.specs.declared.Fifo.{Fifo}
-use Rattle.fifo.specs.Queue.{Queue, well, capacity, maxDepth, legalDepth, legalStrbs}
+use Rattle.fifo.specs.Queue.{Queue, well, capacity, maxDepth, legalPlace, legalStrbs}
 use Rattle.fifo.specs.Ring.{ring, value}
 use Rattle.fifo.proofs.Depths.{depth-least, depth-most, capacity-most}
 use Rattle.fifo.proofs.Places.{wrapped-inside}
@@ -32,18 +32,18 @@ abbrev padding : Queue → List Payload
 padding q = replicate (maxDepth - length (q .held)) zeros
 
 pub fifoOf : Queue → Fifo
-fifoOf q = record { depth = q .depth; count = length (q .held); oldest = 0; slots = q .held ++ padding q }
+fifoOf q = record { place = q .place; count = length (q .held); oldest = 0; slots = q .held ++ padding q }
 
-pub some-fifo : (q : Queue) → legalDepth (q .depth) ≡ true → length (q .held) ≤ capacity q → legalStrbs (q .held) ≡ true → value (fifoOf q) ≡ well q
+pub some-fifo : (q : Queue) → legalPlace (q .place) ≡ true → length (q .held) ≤ capacity (q .place) → legalStrbs (q .held) ≡ true → value (fifoOf q) ≡ well q
 unfolding fifoOf
 some-fifo q legal fits strobes =
     value-of-trusted (fifoOf q) q
-    (trusted-form (fifoOf q) (record { depth = legal; oldest = omega (arith, depth-least (q .depth) legal); count = fits })
-    ∙ ap (λ (l : List Payload). well (record { depth = q .depth; held = l })) in-order)
+    (trusted-form (fifoOf q) (record { place = legal; oldest = omega (arith, depth-least (q .place) legal); count = fits })
+    ∙ ap (λ (l : List Payload). well (record { place = q .place; held = l })) in-order)
     strobes
   where
-    in-order : ring (q .held ++ padding q) (q .depth) 0 (length (q .held)) ≡ q .held
+    in-order : ring (q .held ++ padding q) (q .place .depth) 0 (length (q .held)) ≡ q .held
     in-order =
-        unwrapped (q .held ++ padding q) (q .depth) 0 (length (q .held)) (omega (arith, capacity-most q))
-        (omega (arith, depth-most (q .depth) legal, length-append (q .held) (padding q), length-replicate (maxDepth - length (q .held)) zeros))
+        unwrapped (q .held ++ padding q) (q .place .depth) 0 (length (q .held)) (omega (arith, capacity-most (q .place)))
+        (omega (arith, depth-most (q .place) legal, length-append (q .held) (padding q), length-replicate (maxDepth - length (q .held)) zeros))
         ∙ take-at (q .held) (padding q) (length (q .held)) refl

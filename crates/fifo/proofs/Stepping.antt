@@ -95,7 +95,7 @@ pub cycle-steps-in : (p : Pointers) (words strbs : List ℕ) (q : Queue) (offer 
     (afterWords afterStrbs : List ℕ)
     → trustedIn p words strbs ≡ well q → legalStrb payload ≡ true
     → answeredIn r afterWords afterStrbs ≡ cond clear (cleared q) (cycled q (when offer (payload ∷ [])) sink)
-    → StaysPast (p .depth) words strbs afterWords afterStrbs
+    → StaysPast (p .place .depth) words strbs afterWords afterStrbs
     → StepsIn p words strbs offer payload sink clear r afterWords afterStrbs
 cycle-steps-in p words strbs q offer sink clear payload r afterWords afterStrbs e legal cycle past =
     let by-rule = cycle-answers (trustedIn p words strbs) q offer sink clear payload (answeredIn r afterWords afterStrbs) e legal cycle in

@@ -26,7 +26,7 @@ hasSlots depth words strbs = leb depth (length words) && leb depth (length strbs
 
 -- the value by the numbers, and the value by the held strobes too
 unfoldable pub trustedIn : Pointers → (words strbs : List ℕ) → Value
-trustedIn p words strbs = cond (hasSlots (p .depth) words strbs) (trusted (fifoIn p words strbs)) ill
+trustedIn p words strbs = cond (hasSlots (p .place .depth) words strbs) (trusted (fifoIn p words strbs)) ill
 
 unfoldable pub valueIn : Pointers → (words strbs : List ℕ) → Value
 valueIn p words strbs = strobesChecked (trustedIn p words strbs)

@@ -8,6 +8,7 @@ use lib.ListN.{drop}
 use Rattle.signals.specs.declared.Payload.{Payload}
 use Rattle.signals.specs.Refusals.{refusalOf, accepts}
 use Rattle.signals.specs.Tables.{firstOf}
+use Rattle.fifo.specs.declared.Place.{Place}
 use Rattle.fifo.specs.declared.Fifo.{Fifo}
 use Rattle.fifo.specs.declared.NewFifo.{NewFifo}
 use Rattle.fifo.specs.declared.Stepped.{Stepped}
@@ -18,9 +19,9 @@ use Rattle.fifo.specs.Memory.{hasSlots}
 pub use Rattle.fifo.specs.Ring.{value, trusted}
 pub use Rattle.fifo.specs.Memory.{valueIn, trustedIn, readyIn}
 
-pub record Made (depth : ℕ) (r : NewFifo) : Type 0 where
-  pub refusal : refusalOf (r .outcome) ≡ firstOf (newGrounds depth)
-  pub gives : value (r .fifo) ≡ well (newQueue depth)
+pub record Made (place : Place) (r : NewFifo) : Type 0 where
+  pub refusal : refusalOf (r .outcome) ≡ firstOf (newGrounds place)
+  pub gives : value (r .fifo) ≡ well (newQueue place)
 
 -- a step's answer, with the FIFO that it hands back read by `valueOf`
 abbrev pub answered : (valueOf : Fifo → Value) → Stepped → Answer
@@ -46,8 +47,8 @@ pub record StaysPast (depth : ℕ) (words strbs afterWords afterStrbs : List ℕ
 -- A FIFO laid in lent memory: the pointers stand there for what it stood for, by its numbers. Where there is too little memory, or the
 -- numbers are not in range, they stand for nothing, and the memory is as it was.
 pub record LaysIn (f : Fifo) (words strbs : List ℕ) (r : Pointers) (afterWords afterStrbs : List ℕ) : Type 0 where
-  pub gives : trustedIn r afterWords afterStrbs ≡ cond (hasSlots (f .depth) words strbs) (trusted f) ill
-  pub past : StaysPast (f .depth) words strbs afterWords afterStrbs
+  pub gives : trustedIn r afterWords afterStrbs ≡ cond (hasSlots (f .place .depth) words strbs) (trusted f) ill
+  pub past : StaysPast (f .place .depth) words strbs afterWords afterStrbs
   pub kept : isWell (trustedIn r afterWords afterStrbs) ≡ false → (afterWords ≡ words) × (afterStrbs ≡ strbs)
 
 -- a step's answer in lent memory
@@ -65,5 +66,5 @@ answeredIn r afterWords afterStrbs =
 pub record StepsIn (p : Pointers) (words strbs : List ℕ) (valid : Bool) (offer : Payload) (sink clear : Bool) (r : SteppedIn)
     (afterWords afterStrbs : List ℕ) : Type 0 where
   pub answer : answeredIn r afterWords afterStrbs ≡ stepOf (trustedIn p words strbs) valid offer sink clear
-  pub past : StaysPast (p .depth) words strbs afterWords afterStrbs
+  pub past : StaysPast (p .place .depth) words strbs afterWords afterStrbs
   pub kept : accepts (refusalOf (r .outcome)) ≡ false → (r .next ≡ p) × ((afterWords ≡ words) × (afterStrbs ≡ strbs))

@@ -1,6 +1,6 @@
--- Document 01, "The stage and the line" and "Refusal numbers": a FIFO's value, its rule of one cycle, and what is refused.
--- A FIFO is document 01's stage. Assumes nothing.
-use Prim.Native.Nat.{ℕ, _%_}
+-- Document 01, "The stage and the line" and "Refusal numbers", with request T-08: a FIFO's value, its rule of one cycle, and what is
+-- refused. A FIFO is document 01's stage. Assumes nothing.
+use Prim.Native.Nat.{ℕ, _-_, _%_}
 use mathlib.Core.Bool.{Bool, true, false, cond, not, _&&_}
 use mathlib.Core.List.{List, [], _∷_, _++_}
 use mathlib.Core.Option.{Option, none, some}
@@ -10,28 +10,39 @@ use Rattle.signals.specs.declared.Payload.{Payload}
 use Rattle.signals.specs.Payloads.{zeros, legalStrb}
 use Rattle.signals.specs.Refusals.{accepts}
 use Rattle.signals.specs.Tables.{Row, _⇐_, firstOf}
+use Rattle.fifo.specs.declared.Place.{Place}
 
--- even, 2 to 64
+-- A place in a chain: the depth of the FIFO there, and its kind, plain or early-stall.
+abbrev pub plain : (depth : ℕ) → Place
+plain depth = record { depth = depth; «early_stall» = false }
+
+abbrev pub earlyStall : (depth : ℕ) → Place
+earlyStall depth = record { depth = depth; «early_stall» = true }
+
+-- the most that the FIFO holds: its depth, or one less where it is early-stall
+abbrev pub capacity : Place → ℕ
+capacity place = cond (place .«early_stall») (place .depth - 1) (place .depth)
+
+-- even, 2 to 64; 4 to 64 where it is early-stall
 abbrev pub maxDepth : ℕ
 maxDepth = 64
 
-abbrev pub legalDepth : ℕ → Bool
-legalDepth depth = leb 2 depth && (leb depth maxDepth && eqb (depth % 2) 0)
+abbrev pub minDepth : Place → ℕ
+minDepth place = cond (place .«early_stall») 4 2
 
--- A FIFO's value: its depth, and the payloads that it holds, the oldest first.
+abbrev pub legalPlace : Place → Bool
+legalPlace place = leb (minDepth place) (place .depth) && (leb (place .depth) maxDepth && eqb (place .depth % 2) 0)
+
+-- A FIFO's value: its place, and the payloads that it holds, the oldest first.
 pub record Queue : Type 0 where
-  pub depth : ℕ
+  pub place : Place
   pub held : List Payload
 
--- the most that it holds
-abbrev pub capacity : Queue → ℕ
-capacity q = q .depth
-
-abbrev pub empty : ℕ → Queue
-empty depth = record { depth = depth; held = [] }
+abbrev pub empty : Place → Queue
+empty place = record { place = place; held = [] }
 
 abbrev pub emptied : Queue → Queue
-emptied q = empty (q .depth)
+emptied q = empty (q .place)
 
 -- A list of at most one payload is what one cycle offers, shows, accepts or delivers.
 abbrev pub when : Bool → List Payload → List Payload
@@ -56,7 +67,7 @@ shownAs (p ∷ ps) = p
 
 -- ready to the source: fewer than its capacity are held
 abbrev pub ready : Queue → Bool
-ready q = ltb (length (q .held)) (capacity q)
+ready q = ltb (length (q .held)) (capacity (q .place))
 
 -- shown to the sink: the oldest
 abbrev pub shown : Queue → List Payload
@@ -65,7 +76,7 @@ shown q = oldest (q .held)
 -- a payload offered while ready is 1 joins at the end; the oldest leaves when the sink's ready is 1
 abbrev pub next : Queue → List Payload → Bool → Queue
 next q offer sink =
-    record { depth = q .depth; held = cond sink (rest (q .held)) (q .held) ++ when (ready q) offer }
+    record { place = q .place; held = cond sink (rest (q .held)) (q .held) ++ when (ready q) offer }
 
 -- What a FIFO that is handed in stands for: a queue, or nothing, its form being broken.
 pub data Value : Type 0 where
@@ -82,7 +93,7 @@ readyOf (well q) = ready q
 
 -- the queue that it stands for; nothing is held where there is none
 abbrev pub queueIn : Value → Queue
-queueIn ill = empty 0
+queueIn ill = empty (plain 0)
 queueIn (well q) = q
 
 -- What a step answers, the number of its refusal if it is refused, and the value of the FIFO that it hands back.
@@ -123,12 +134,12 @@ unfoldable pub stepOf : Value → (valid : Bool) → Payload → (sink clear : B
 stepOf v valid p sink clear = stepBy (firstOf (stepGrounds v p)) v valid p sink clear
 
 -- the ground for refusing a new FIFO
-abbrev pub newGrounds : (depth : ℕ) → List (Row ℕ)
-newGrounds depth = 4 ⇐ not (legalDepth depth) ∷ []
+abbrev pub newGrounds : Place → List (Row ℕ)
+newGrounds place = 4 ⇐ not (legalPlace place) ∷ []
 
--- what is handed back: empty, and of depth 2 where refused
-abbrev pub newQueue : (depth : ℕ) → Queue
-newQueue depth = empty (cond (accepts (firstOf (newGrounds depth))) depth 2)
+-- what is handed back: empty, and plain of depth 2 where refused
+abbrev pub newQueue : Place → Queue
+newQueue place = empty (cond (accepts (firstOf (newGrounds place))) place (plain 2))
 
 -- each strobe is at most 15
 unfoldable pub legalStrbs : List Payload → Bool

@@ -10,7 +10,7 @@ use Rattle.signals.specs.declared.Payload.{Payload}
 use Rattle.signals.specs.Payloads.{zeros}
 use Rattle.fifo.specs.declared.Fifo.{Fifo}
 use Rattle.fifo.specs.declared.Pointers.{Pointers}
-use Rattle.fifo.specs.Queue.{Queue, Value, ill, well, capacity, legalDepth, legalStrbs}
+use Rattle.fifo.specs.Queue.{Queue, Value, ill, well, capacity, legalPlace, legalStrbs}
 
 -- whether a place has not passed the end of the ring
 abbrev pub isInside : (depth place : ℕ) → Bool
@@ -32,31 +32,31 @@ ring slots depth at (suc n) = getD slots at zeros ∷ ring slots depth (wrapped 
 
 -- a FIFO but for its slots, and pointers with slots for them
 abbrev pub pointersOf : Fifo → Pointers
-pointersOf f = record { depth = f .depth; count = f .count; oldest = f .oldest }
+pointersOf f = record { place = f .place; count = f .count; oldest = f .oldest }
 
 abbrev pub fifoWith : Pointers → (slots : List Payload) → Fifo
-fifoWith p slots = record { depth = p .depth; count = p .count; oldest = p .oldest; slots = slots }
+fifoWith p slots = record { place = p .place; count = p .count; oldest = p .oldest; slots = slots }
 
 -- the queue in the slots, whether or not the numbers are in range
 abbrev pub queueOf : Fifo → Queue
-queueOf f = record { depth = f .depth; held = ring (f .slots) (f .depth) (f .oldest) (f .count) }
+queueOf f = record { place = f .place; held = ring (f .slots) (f .place .depth) (f .oldest) (f .count) }
 
--- the numbers are in range: a legal depth, a position below it, and no more held than the capacity
+-- the numbers are in range: a legal place, a position below its depth, and no more held than its capacity
 unfoldable pub inRange : Fifo → Bool
-inRange f = legalDepth (f .depth) && (ltb (f .oldest) (f .depth) && leb (f .count) (capacity (queueOf f)))
+inRange f = legalPlace (f .place) && (ltb (f .oldest) (f .place .depth) && leb (f .count) (capacity (f .place)))
 
 -- A FIFO's places are the remainders'.
 pub record ByRemainder (f : Fifo) : Type 0 where
   -- from its position, every count up to its capacity gives a sum below twice its depth
-  pub once : (count : ℕ) → count ≤ capacity (queueOf f) → f .oldest + count < 2 * f .depth
+  pub once : (count : ℕ) → count ≤ capacity (f .place) → f .oldest + count < 2 * f .place .depth
   -- where the next payload joins
-  pub end : wrapped (f .depth) (f .oldest + f .count) ≡ (f .oldest + f .count) % f .depth
+  pub end : wrapped (f .place .depth) (f .oldest + f .count) ≡ (f .oldest + f .count) % f .place .depth
   -- where the next oldest lies
-  pub next-oldest : wrapped (f .depth) (f .oldest + 1) ≡ (f .oldest + 1) % f .depth
+  pub next-oldest : wrapped (f .place .depth) (f .oldest + 1) ≡ (f .oldest + 1) % f .place .depth
   -- where held payload i lies, the oldest being 0
-  pub held : (i : ℕ) → i < f .count → getD (queueOf f .held) i zeros ≡ getD (f .slots) ((f .oldest + i) % f .depth) zeros
+  pub held : (i : ℕ) → i < f .count → getD (queueOf f .held) i zeros ≡ getD (f .slots) ((f .oldest + i) % f .place .depth) zeros
 
--- so it is for every FIFO whose numbers are in range, that is for every legal depth, position and count
+-- so it is for every FIFO whose numbers are in range, that is for every legal place, position and count
 abbrev pub EveryPlace : Type 0
 EveryPlace = (f : Fifo) → inRange f ≡ true → ByRemainder f
 

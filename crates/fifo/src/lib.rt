@@ -1,8 +1,9 @@
 // One FIFO of payloads, a cycle at a time.
 //
-// Writes out the FIFO of "The stage and the line" of document 01, with request T-06. The value of a FIFO is its depth and its payloads,
-// the oldest first (`specs/Queue.antt`); the ring that holds them (`specs/Ring.antt`) is nobody else's affair. The same FIFO may lie in
-// lent memory (`memory.rt`).
+// Writes out the FIFO of "The stage and the line" of document 01, with requests T-06 and T-08. The value of a FIFO is its place, which is
+// its depth and its kind, and its payloads, the oldest first (`specs/Queue.antt`); the ring that holds them (`specs/Ring.antt`) is nobody
+// else's affair. The same FIFO may lie in lent memory (`memory.rt`).
+mod capacity;
 mod memory;
 mod ring;
 
@@ -14,7 +15,6 @@ ghost use Rattle.fifo.specs.Queue.{isWell, readyOf, when, cleared, cycle
 ghost use Rattle.fifo.specs.Ring.{value, trusted, queueOf, inRange};
 ghost use Rattle.fifo.specs.Promises.{Made, Steps, answered};
 use ring::every_slot;
-use ring::is_legal_depth;
 use ring::wrap;
 use signals::MAX_STRB;
 use signals::Outcome;
@@ -24,10 +24,17 @@ use signals::Refusal;
 // The deepest FIFO.
 pub const MAX_DEPTH: usize = 64;
 
-// A FIFO, document 01's stage. `count` payloads lie in the slots from `oldest` on, around the end at `depth`.
+// A place in a chain: the depth of the FIFO there, and whether it is early-stall or plain.
+#[repr(C)]
+pub struct Place {
+    pub depth: usize,
+    pub early_stall: bool,
+}
+
+// A FIFO, document 01's stage. `count` payloads lie in the slots from `oldest` on, around the end at the depth of its place.
 #[repr(C)]
 pub struct Fifo {
-    pub depth: usize,
+    pub place: Place,
     pub count: usize,
     pub oldest: usize,
     pub slots: [Payload; MAX_DEPTH],
@@ -35,7 +42,7 @@ pub struct Fifo {
 
 // A FIFO but for its slots, which lie in lent memory.
 pub struct Pointers {
-    pub depth: usize,
+    pub place: Place,
     pub count: usize,
     pub oldest: usize,
 }
@@ -64,19 +71,23 @@ pub struct SteppedIn {
 }
 
 impl Fifo {
-    // An empty FIFO. A depth that is refused gives one of depth 2.
-    pub fn new(depth: usize) -> NewFifo
-        ensures { λ r. ⌜ Made depth r ⌝ }
+    // An empty FIFO. A place that is refused gives a plain one of depth 2.
+    pub fn new(place: Place) -> NewFifo
+        ensures { λ r. ⌜ Made place r ⌝ }
     {
-        if is_legal_depth(depth) {
+        if place.is_legal() {
             return NewFifo {
                 outcome: Outcome::Accepted,
-                fifo: Fifo::empty(depth),
+                fifo: Fifo::empty(place),
             };
         }
+        let smallest = Place {
+            depth: 2,
+            early_stall: false,
+        };
         NewFifo {
             outcome: Outcome::Refused(Refusal::BadDepth),
-            fifo: Fifo::empty(2),
+            fifo: Fifo::empty(smallest),
         }
     }
 
@@ -141,10 +152,11 @@ impl Fifo {
             shown = slots[oldest];
         }
         let left = pointers.popped(sink);
+        let place = left.place;
         let first = left.oldest;
         let mut held = left.count;
         if valid & ready {
-            let end = wrap(left.depth, first + held);
+            let end = wrap(place.depth, first + held);
             slots[end] = payload;
             held += 1;
         }
@@ -154,7 +166,7 @@ impl Fifo {
             valid: 0 < count,
             payload: shown,
             next: Fifo {
-                depth: left.depth,
+                place: place,
                 count: held,
                 oldest: first,
                 slots: slots,

@@ -14,6 +14,7 @@ ghost use Rattle.fifo.specs.Memory.{slotsIn, fifoIn, hasSlots, trustedIn
 ghost use Rattle.fifo.specs.Promises.{LaysIn, StaysPast, StepsIn, answeredIn};
 use super::Fifo;
 use super::MAX_DEPTH;
+use super::Place;
 use super::Pointers;
 use super::SteppedIn;
 use super::ring::every_slot;
@@ -22,6 +23,12 @@ use signals::MAX_STRB;
 use signals::Outcome;
 use signals::Payload;
 use signals::Refusal;
+
+// The place of no FIFO.
+const NOWHERE: Place = Place {
+    depth: 0,
+    early_stall: false,
+};
 
 // Whether words and strobes of these numbers are a slot for each place of a ring.
 fn has_slots(depth: usize, words: usize, strbs: usize) -> bool
@@ -52,13 +59,13 @@ impl Fifo {
     // Writes the slots of the ring to lent memory.
     fn copy_slots(self, words: &mut [u32], strbs: &mut [u8])
         requires { ⌜ inRange self ≡ true ⌝ }
-        requires { ⌜ hasSlots (self .depth) (now words) (now strbs) ≡ true ⌝ }
-        ensures { λ r. ⌜ take (self .depth) (slotsIn (now (words .exit)) (now (strbs .exit))) ≡ take (self .depth) (self .slots) ⌝ }
-        ensures { λ r. ⌜ StaysPast (self .depth) (now (words .entry)) (now (strbs .entry)) (now (words .exit)) (now (strbs .exit)) ⌝ }
+        requires { ⌜ hasSlots (self .place .depth) (now words) (now strbs) ≡ true ⌝ }
+        ensures { λ r. ⌜ take (self .place .depth) (slotsIn (now (words .exit)) (now (strbs .exit))) ≡ take (self .place .depth) (self .slots) ⌝ }
+        ensures { λ r. ⌜ StaysPast (self .place .depth) (now (words .entry)) (now (strbs .entry)) (now (words .exit)) (now (strbs .exit)) ⌝ }
     {
         let slots = self.slots;
         every_slot(slots);
-        let depth = self.depth;
+        let depth = self.place.depth;
         let mut i = 0;
         while i < depth {
             let p = slots[i];
@@ -73,12 +80,12 @@ impl Fifo {
     pub fn laid_in(self, words: &mut [u32], strbs: &mut [u8]) -> Pointers
         ensures { λ r. ⌜ LaysIn self (now (words .entry)) (now (strbs .entry)) r (now (words .exit)) (now (strbs .exit)) ⌝ }
     {
-        if self.is_in_range() & has_slots(self.depth, words.len(), strbs.len()) {
+        if self.is_in_range() & has_slots(self.place.depth, words.len(), strbs.len()) {
             self.copy_slots(words, strbs);
             return self.pointers();
         }
         Pointers {
-            depth: 0,
+            place: NOWHERE,
             count: 0,
             oldest: 0,
         }
@@ -90,17 +97,18 @@ impl Pointers {
     pub fn gathered(self, words: &[u32], strbs: &[u8]) -> Fifo
         ensures { λ r. ⌜ trusted r ≡ trustedIn self (now (words .entry)) (now (strbs .entry)) ⌝ }
     {
-        if self.is_in_range() & has_slots(self.depth, words.len(), strbs.len()) {
-            let slots = slots_in(self.depth, words, strbs);
+        if self.is_in_range() & has_slots(self.place.depth, words.len(), strbs.len()) {
+            let place = self.place;
+            let slots = slots_in(place.depth, words, strbs);
             return Fifo {
-                depth: self.depth,
+                place: place,
                 count: self.count,
                 oldest: self.oldest,
                 slots: slots,
             };
         }
         Fifo {
-            depth: 0,
+            place: NOWHERE,
             count: 0,
             oldest: 0,
             slots: [Payload { data: 0, strb: 0 }; MAX_DEPTH],
@@ -126,7 +134,7 @@ impl Pointers {
     ) -> SteppedIn
         ensures { λ r. ⌜ StepsIn self (now (words .entry)) (now (strbs .entry)) valid payload sink clear r (now (words .exit)) (now (strbs .exit)) ⌝ }
     {
-        let formed = self.is_in_range() & has_slots(self.depth, words.len(), strbs.len());
+        let formed = self.is_in_range() & has_slots(self.place.depth, words.len(), strbs.len());
         let legal = payload.strb <= MAX_STRB;
         if formed & legal {
             return self.cycle(words, strbs, valid, payload, sink, clear);
@@ -148,9 +156,9 @@ impl Pointers {
         clear: bool,
     ) -> SteppedIn
         requires { ⌜ inRange (fifoIn self (now words) (now strbs)) ≡ true ⌝ }
-        requires { ⌜ hasSlots (self .depth) (now words) (now strbs) ≡ true ⌝ }
+        requires { ⌜ hasSlots (self .place .depth) (now words) (now strbs) ≡ true ⌝ }
         ensures { λ r. ⌜ answeredIn r (now (words .exit)) (now (strbs .exit)) ≡ cond clear (cleared (queueOf (fifoIn self (now (words .entry)) (now (strbs .entry))))) (cycled (queueOf (fifoIn self (now (words .entry)) (now (strbs .entry)))) (when valid (payload ∷ [])) sink) ⌝ }
-        ensures { λ r. ⌜ StaysPast (self .depth) (now (words .entry)) (now (strbs .entry)) (now (words .exit)) (now (strbs .exit)) ⌝ }
+        ensures { λ r. ⌜ StaysPast (self .place .depth) (now (words .entry)) (now (strbs .entry)) (now (words .exit)) (now (strbs .exit)) ⌝ }
     {
         if clear {
             return self.emptied().silent(Outcome::Accepted);
@@ -166,10 +174,11 @@ impl Pointers {
             };
         }
         let left = self.popped(sink);
+        let place = left.place;
         let first = left.oldest;
         let mut held = left.count;
         if valid & ready {
-            let end = wrap(left.depth, first + held);
+            let end = wrap(place.depth, first + held);
             words[end] = payload.data;
             strbs[end] = payload.strb;
             held += 1;
@@ -180,7 +189,7 @@ impl Pointers {
             valid: 0 < count,
             payload: shown,
             next: Pointers {
-                depth: left.depth,
+                place: place,
                 count: held,
                 oldest: first,
             },

@@ -6,10 +6,11 @@ ghost use mathlib.Core.Bool.{true, false, cond};
 ghost use mathlib.Core.List.{List, []};
 ghost use lib.ListN.{length};
 ghost use Rattle.signals.specs.declared.Payload.{Payload};
-ghost use Rattle.fifo.specs.Queue.{maxDepth, capacity, legalDepth, legalStrbs, well, empty, emptied, ready, rest};
+ghost use Rattle.fifo.specs.Queue.{maxDepth, legalPlace, legalStrbs, well, empty, emptied, ready, rest};
 ghost use Rattle.fifo.specs.Ring.{wrapped, pointersOf, fifoWith, trusted, queueOf, inRange};
 use super::Fifo;
 use super::MAX_DEPTH;
+use super::Place;
 use super::Pointers;
 use signals::MAX_STRB;
 use signals::Payload;
@@ -29,20 +30,13 @@ pub(crate) fn every_slot(slots: [Payload; MAX_DEPTH]) -> bool
     true
 }
 
-// Even, from 2 to the deepest.
-pub(crate) fn is_legal_depth(depth: usize) -> bool
-    ensures { λ r. ⌜ r ≡ legalDepth depth ⌝ }
-{
-    (2 <= depth) & ((depth <= MAX_DEPTH) & (depth / 2 * 2 == depth))
-}
-
 impl Fifo {
-    pub(crate) fn empty(depth: usize) -> Fifo
-        requires { ⌜ legalDepth depth ≡ true ⌝ }
-        ensures { λ r. ⌜ trusted r ≡ well (empty depth) ⌝ }
+    pub(crate) fn empty(place: Place) -> Fifo
+        requires { ⌜ legalPlace place ≡ true ⌝ }
+        ensures { λ r. ⌜ trusted r ≡ well (empty place) ⌝ }
     {
         Fifo {
-            depth: depth,
+            place: place,
             count: 0,
             oldest: 0,
             slots: [Payload { data: 0, strb: 0 }; MAX_DEPTH],
@@ -52,8 +46,9 @@ impl Fifo {
     pub(crate) fn pointers(self) -> Pointers
         ensures { λ r. ⌜ r ≡ pointersOf self ⌝ }
     {
+        let place = self.place;
         Pointers {
-            depth: self.depth,
+            place: place,
             count: self.count,
             oldest: self.oldest,
         }
@@ -71,7 +66,7 @@ impl Fifo {
         requires { ⌜ inRange self ≡ true ⌝ }
         ensures { λ r. ⌜ r ≡ legalStrbs (queueOf self .held) ⌝ }
     {
-        let depth = self.depth;
+        let depth = self.place.depth;
         let mut at = self.oldest;
         let mut left = self.count;
         while 0 < left {
@@ -96,33 +91,31 @@ impl Fifo {
 
 // What the numbers say is said whatever the slots hold.
 impl Pointers {
-    // The most that it holds.
-    fn capacity(self) -> usize
-        ensures { λ r. ⌜ ((slots : List Payload) → r ≡ capacity (queueOf (fifoWith self slots))) ⌝ }
-    {
-        self.depth
-    }
-
     // Whether the numbers are in range.
     pub(crate) fn is_in_range(self) -> bool
         ensures { λ r. ⌜ ((slots : List Payload) → r ≡ inRange (fifoWith self slots)) ⌝ }
     {
-        is_legal_depth(self.depth) & ((self.oldest < self.depth) & (self.count <= self.capacity()))
+        let place = self.place;
+        let depth = place.depth;
+        let most = place.capacity();
+        place.is_legal() & ((self.oldest < depth) & (self.count <= most))
     }
 
-    // Whether it holds fewer than its capacity.
+    // Whether it holds fewer than the capacity.
     pub(crate) fn has_room(self) -> bool
         ensures { λ r. ⌜ ((slots : List Payload) → r ≡ ready (queueOf (fifoWith self slots))) ⌝ }
     {
-        self.count < self.capacity()
+        let place = self.place;
+        self.count < place.capacity()
     }
 
     // None is held.
     pub(crate) fn emptied(self) -> Pointers
-        ensures { λ r. ⌜ r ≡ record { depth = self .depth; count = 0; oldest = self .oldest } ⌝ }
+        ensures { λ r. ⌜ r ≡ record { place = self .place; count = 0; oldest = self .oldest } ⌝ }
     {
+        let place = self.place;
         Pointers {
-            depth: self.depth,
+            place: place,
             count: 0,
             oldest: self.oldest,
         }
@@ -131,13 +124,14 @@ impl Pointers {
     // Where the payloads lie after the oldest has left, which it does when the sink is ready.
     pub(crate) fn popped(self, sink: bool) -> Pointers
         requires { ⌜ inRange (fifoWith self []) ≡ true ⌝ }
-        ensures { λ r. ⌜ ((slots : List Payload) → trusted (fifoWith r slots) ≡ well (record { depth = self .depth; held = cond sink (rest (queueOf (fifoWith self slots) .held)) (queueOf (fifoWith self slots) .held) })) ⌝ }
+        ensures { λ r. ⌜ ((slots : List Payload) → trusted (fifoWith r slots) ≡ well (record { place = self .place; held = cond sink (rest (queueOf (fifoWith self slots) .held)) (queueOf (fifoWith self slots) .held) })) ⌝ }
     {
         if sink & (0 < self.count) {
-            let oldest = wrap(self.depth, self.oldest + 1);
+            let place = self.place;
+            let oldest = wrap(place.depth, self.oldest + 1);
             let count = self.count - 1;
             return Pointers {
-                depth: self.depth,
+                place: place,
                 count: count,
                 oldest: oldest,
             };

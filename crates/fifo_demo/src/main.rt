@@ -1,6 +1,8 @@
-// Runs the FIFO: new ones of legal and illegal depths, then one of depth 4 that is filled, drained, wrapped, cleared and
-// refused. Each call is printed on a line: what it was given, and what it answered.
+// Runs the FIFO: new ones at legal and illegal places, then a plain one of depth 4 that is filled, drained, wrapped, cleared and
+// refused, and an early-stall one of depth 4 that is filled and drained. Each call is printed on a line: what it was given, and what
+// it answered.
 use fifo::Fifo;
+use fifo::Place;
 use signals::Outcome;
 use signals::Payload;
 
@@ -26,14 +28,28 @@ fn payload_fields(p: Payload) {
     field(b" strb=", p.strb as u64);
 }
 
+// The kind is printed only where it is early-stall.
+fn place_fields(place: Place) {
+    if place.early_stall {
+        io::write_all(1, b" early-stall");
+    }
+    field(b" depth=", place.depth as u64);
+}
+
 // A new FIFO.
-fn new(depth: usize) -> Fifo {
-    let r = Fifo::new(depth);
+fn new(early_stall: bool, depth: usize) -> Fifo {
+    let place = Place {
+        depth: depth,
+        early_stall: early_stall,
+    };
+    let r = Fifo::new(place);
     let outcome = r.outcome;
     let made = r.fifo;
-    field(b"new depth=", depth as u64);
+    io::write_all(1, b"new");
+    place_fields(place);
     field(b" | refusal=", number(outcome) as u64);
-    field(b" depth=", made.depth as u64);
+    let given = made.place;
+    place_fields(given);
     field(b" held=", made.count as u64);
     io::write_all(1, b"\n");
     made
@@ -77,7 +93,8 @@ fn drain(f: Fifo) -> Fifo {
     step(f, false, Payload { data: 0, strb: 0 }, true, false)
 }
 
-// Four fit. A fifth waits, also in the cycle in which the full FIFO pops.
+// Four are offered, of which four fit into a plain FIFO and three into an early-stall one. What comes next waits, also in the cycle in
+// which the full FIFO pops.
 fn filled(empty: Fifo) -> Fifo {
     let f = offer(empty, 11, false);
     let f = offer(f, 12, false);
@@ -120,18 +137,26 @@ fn refused(f: Fifo) {
 }
 
 fn main() {
-    new(2);
-    new(16);
-    new(18);
-    new(64);
-    new(0);
-    new(3);
-    new(17);
-    new(65);
-    new(66);
-    let f = new(4);
+    new(false, 2);
+    new(false, 16);
+    new(false, 18);
+    new(false, 64);
+    new(false, 0);
+    new(false, 3);
+    new(false, 17);
+    new(false, 65);
+    new(false, 66);
+    new(true, 4);
+    new(true, 64);
+    new(true, 2);
+    new(true, 5);
+    new(true, 66);
+    let f = new(false, 4);
     let f = filled(f);
     let f = drained(f);
     let f = wrapped(f);
     refused(f);
+    let f = new(true, 4);
+    let f = filled(f);
+    drained(f);
 }

@@ -35,6 +35,6 @@ abbrev pub maxCycles : ℕ
 maxCycles = 65536
 
 -- some entry has a property; it is looked for in the whole input
-abbrev pub anyOf : (ℕ → Bool) → List ℕ → Bool
+abbrev pub anyOf : {A : Type 0} → (A → Bool) → List A → Bool
 anyOf has [] = false
 anyOf has (x ∷ xs) = has x || anyOf has xs

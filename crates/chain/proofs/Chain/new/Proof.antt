@@ -1,25 +1,40 @@
--- `Chain::new` keeps its promise: the count is looked at first, then the depths. Assumes nothing.
-use mathlib.Core.Path.{sym, _∙_}
-use borrow.Author.Needs.{needs}
-use Rattle.chain.proofs.Filling.{made-count}
-use Rattle.chain.proofs.Chain.new.Statement.{statement}
-use Rattle.chain.proofs.Chain.new.Tie as tie
+-- `Chain::new` keeps its promise: it is `Passing.antt`'s function over a lent slice, and `Places::read` and `Chain::at` its callees.
+-- Its MIR computes to that function's, and places make what the list makes that they were read off (`made-read`).
+-- Assumes nothing.
+use Rattle.fifo.proofs.Place as S
+use Rattle.chain.specs.Listing.{Lists}
+use Rattle.chain.specs.Promises.{placesOf, Made}
+use Rattle.chain.proofs.Filling.{made-read}
+use Rattle.chain.proofs.Passing.{Passing, enters}
+use Rattle.chain.proofs.Places as P
+use Rattle.chain.proofs.Places.Laws as P′
+use Rattle.chain.proofs.NewChain as N
+use Rattle.chain.proofs.NewChain.Laws as N′
+use Rattle.chain.proofs.Places.read.Symbol as read
+use Rattle.chain.proofs.Places.read.Met as read-thm
+use Rattle.chain.proofs.Chain.at.Symbol as at
+use Rattle.chain.proofs.Chain.at.Met as at-thm
+use Rattle.chain.proofs.Chain.new.Key.{name as #new}
+use Rattle.chain.proofs.Chain.new.Statement as stated
+use Rattle.chain.proofs.Chain.new.Code as code
 
-is-legal-count-requires : tie.Need-is-legal-count-requires
-is-legal-count-requires c κs = search needs
+abbrev passing : Passing
+passing = record {
+  lent = S.the-type;
+  middle = P.the-type;
+  middle-laws = P′.the-laws;
+  result = N.the-type;
+  result-laws = N′.the-laws;
+  first = read.name;
+  second = at.name;
+  First = Lists;
+  Second = λ places r. Made (placesOf places) r;
+  Promised = Made;
+  follows = made-read;
+}
 
-of-depths-requires : tie.Need-of-depths-requires
-of-depths-requires c κs = sym (c .before .is-legal-count .ensures) ∙ c .if1 .taken
-
-returns : tie.Need-returns
-returns c = c .of-depths .ensures
-
-shortest-requires : tie.Need-shortest-requires
-shortest-requires c κs = search needs
-
-returns-2 : tie.Need-returns-2
-returns-2 c =
-    made-count _ (c .shortest .result) (sym (c .before .before .is-legal-count .ensures) ∙ c .before .if1 .left) (c .shortest .ensures)
-
-pub new-spec : {M : Type 1} → statement M
-new-spec = tie.close (tie.spec is-legal-count-requires of-depths-requires returns shortest-requires returns-2)
+pub new-spec : {M : Type 1} → stated.statement M
+unfolding code.routine
+new-spec 𝓤 H 𝓜 𝓖 𝓡 =
+    enters passing 𝓤 H 𝓜 𝓖 𝓡 code.env #new (code.unfolded 𝓤 H 𝓜 𝓡)
+    read.routine code.calls-chain·Places·read (read-thm.met 𝓤 H 𝓜 𝓖 𝓡) at.routine code.calls-chain·Chain·at (at-thm.met 𝓤 H 𝓜 𝓖 𝓡)

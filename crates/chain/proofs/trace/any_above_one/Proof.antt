@@ -30,7 +30,7 @@ shared-slice-read-if1 c = omega arith
 returns : tie.Need-returns Inv-loop μ-loop
 returns c =
     let l = c .before .before .before .loop in
-    any-found aboveOne (l .i) _ _ (l .inv .1) (omega arith) (lt-ltb _ _ (c .if1 .taken))
+    any-found 0 aboveOne (l .i) _ _ (l .inv .1) (omega arith) (lt-ltb _ _ (c .if1 .taken))
 
 add-i : tie.Need-add-i Inv-loop μ-loop
 add-i c = omega arith
@@ -41,10 +41,10 @@ loop-less c = omega arith
 loop-again : tie.Need-loop-again Inv-loop μ-loop
 loop-again c =
     let l = c .before .before .before .loop in
-    (omega arith, any-goes aboveOne (l .i) _ _ (l .inv .1) (omega arith) (le-ltb _ _ (c .if1 .left)))
+    (omega arith, any-goes 0 aboveOne (l .i) _ _ (l .inv .1) (omega arith) (le-ltb _ _ (c .if1 .left)))
 
 returns-2 : tie.Need-returns-2 Inv-loop μ-loop
-returns-2 c = let l = c .before .loop in any-ends aboveOne (l .i) _ _ (l .inv .1) (omega arith)
+returns-2 c = let l = c .before .loop in any-ends 0 aboveOne (l .i) _ _ (l .inv .1) (omega arith)
 
 pub any-above-one-spec : {M : Type 1} → statement M
 any-above-one-spec =

@@ -39,8 +39,8 @@ inside c =
     let h = c .loop-test .taken in (
       omega (arith, h, depth-within f (start .pre .0), c .before .before .every-slot .ensures),
       (
-        omega (arith, h, slots-words (f .depth) (start .args .words .now) (start .args .strbs .now) (start .pre .1), l .inv .1 .1 .0),
-        omega (arith, h, slots-strbs (f .depth) (start .args .words .now) (start .args .strbs .now) (start .pre .1), l .inv .1 .1 .1 .0),
+        omega (arith, h, slots-words (f .place .depth) (start .args .words .now) (start .args .strbs .now) (start .pre .1), l .inv .1 .1 .0),
+        omega (arith, h, slots-strbs (f .place .depth) (start .args .words .now) (start .args .strbs .now) (start .pre .1), l .inv .1 .1 .1 .0),
       ),
     )
 
@@ -96,7 +96,7 @@ same-length-2 c = search needs
 returns : tie.Need-returns Inv-loop μ-loop
 returns c =
     let l = c .before .loop in
-    let end : l .i ≡ c .before .before .before .before .before .before .args .self .depth = omega (arith, c .loop-test .left) in
+    let end : l .i ≡ c .before .before .before .before .before .before .args .self .place .depth = omega (arith, c .loop-test .left) in
     (rw end at (l .inv .0), l .inv .1 .0)
 
 pub copy-slots-spec : {M : Type 1} → statement M

@@ -69,21 +69,21 @@ popped-requires c κs =
     in-range-any (pointers (c .before)) [] (a .args .self .slots) ∙ ap inRange (same-fifo (c .before)) ∙ a .pre
 
 -- the FIFO from which the oldest has left where the sink is ready
-abbrev popped : tie.After-popped → Fifo
-popped c = fifoWith (c .popped .result) (start (c .before .before) .args .self .slots)
+abbrev popped : tie.After-place → Fifo
+popped c = fifoWith (c .before .popped .result) (start (c .before .before .before) .args .self .slots)
 
-pops : (c : tie.After-popped) → let a = start (c .before .before) .args in trusted (popped c) ≡ well (popQueue (queueOf (a .self)) (a .sink))
+pops : (c : tie.After-place) → let a = start (c .before .before .before) .args in trusted (popped c) ≡ well (popQueue (queueOf (a .self)) (a .sink))
 pops c =
-    let copied = c .before .before in
+    let copied = c .before .before .before in
     let a = start copied .args in
-    c .popped .ensures (a .self .slots) ∙ ap (λ (f : Fifo). well (popQueue (queueOf f) (a .sink))) (same-fifo copied)
+    c .before .popped .ensures (a .self .slots) ∙ ap (λ (f : Fifo). well (popQueue (queueOf f) (a .sink))) (same-fifo copied)
 
-in-range : (c : tie.After-popped) → inRange (popped c) ≡ true
-in-range c = let a = start (c .before .before) .args in pop-in-range (a .self) (popped c) (a .sink) (pops c)
+in-range : (c : tie.After-place) → inRange (popped c) ≡ true
+in-range c = let a = start (c .before .before .before) .args in pop-in-range (a .self) (popped c) (a .sink) (pops c)
 
 -- its ring has its slots
-fits : (c : tie.After-popped) → popped c .depth ≤ length (popped c .slots)
-fits c = omega (arith, depth-within (popped c) (in-range c), c .before .before .every-slot .ensures)
+fits : (c : tie.After-place) → popped c .place .depth ≤ length (popped c .slots)
+fits c = omega (arith, depth-within (popped c) (in-range c), c .before .before .before .every-slot .ensures)
 
 add-wrap : tie.Need-add-wrap
 add-wrap c =
@@ -109,13 +109,13 @@ add-held c = let d = c .before .before in omega (arith, count-within (popped d) 
 -- the FIFO that is built
 abbrev built : tie.Joined3 → Fifo
 built c =
-    record { depth = popped (c .before) .depth; count = c .if3 .held; oldest = popped (c .before) .oldest; slots = c .if3 .slots }
+    record { place = popped (c .before) .place; count = c .if3 .held; oldest = popped (c .before) .oldest; slots = c .if3 .slots }
 
 -- whether or not a payload joined, it is the rule's next
-gives : (c : tie.Joined3) → let a = start (c .before .before .before) .args in
+gives : (c : tie.Joined3) → let a = start (c .before .before .before .before) .args in
     trusted (built c) ≡ well (next (queueOf (a .self)) (when (a .valid) (a .payload ∷ [])) (a .sink))
 gives c =
-    let copied = c .before .before .before in
+    let copied = c .before .before .before .before in
     let a = start copied .args in
     let p = popped (c .before) in
     let leaves = pops (c .before) in
@@ -128,10 +128,10 @@ gives c =
 
 returns-2 : tie.Need-returns-2
 returns-2 c =
-    let copied = c .before .before .before in
+    let copied = c .before .before .before .before in
     let a = start copied .args in
     rw (copied .before .before .before .before .if1 .left)
-    (parts-cycle (queueOf (a .self)) (when (a .valid) (a .payload ∷ [])) (a .sink) _ _ _ _ (room copied) (sym (shows-count (a .self))) (shows (c .before .before)) (gives c))
+    (parts-cycle (queueOf (a .self)) (when (a .valid) (a .payload ∷ [])) (a .sink) _ _ _ _ (room copied) (sym (shows-count (a .self))) (shows (c .before .before .before)) (gives c))
 
 pub cycle-spec : {M : Type 1} → statement M
 cycle-spec =

@@ -6,7 +6,7 @@ use Rattle.fifo.proofs.Fifo.empty.Statement.{statement}
 use Rattle.fifo.proofs.Fifo.empty.Tie as tie
 
 returns : tie.Need-returns
-returns c = count-0-empty (c .args .depth) 0 _ (c .pre) (omega (arith, depth-least (c .args .depth) (c .pre)))
+returns c = count-0-empty (c .args .place) 0 _ (c .pre) (omega (arith, depth-least (c .args .place) (c .pre)))
 
 pub empty-spec : {M : Type 1} → statement M
 empty-spec = tie.close (tie.spec returns)

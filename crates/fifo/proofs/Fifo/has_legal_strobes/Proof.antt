@@ -20,7 +20,7 @@ abbrev μ-loop : tie.MeasureT-loop
 μ-loop self depth at₀ left₀ at left = left
 
 loop-holds : tie.Need-loop-holds Inv-loop μ-loop
-loop-holds c = let form = form-of (c .args .t1) (c .pre) in (refl, (form .oldest, depth-most (c .args .t1 .depth) (form .depth)))
+loop-holds c = let form = form-of (c .args .t1) (c .pre) in (refl, (form .oldest, depth-most (c .args .t1 .place) (form .place)))
 
 mul-p : tie.Need-mul-p Inv-loop μ-loop
 mul-p c = search needs
@@ -32,7 +32,7 @@ returns : tie.Need-returns Inv-loop μ-loop
 returns c =
     let l = c .before .before .before .before .loop in
     let f = c .before .before .before .before .before .args .t1 in
-    sym (l .inv .0 ∙ strobe-illegal (f .slots) (f .depth) (l .at) (l .left) (search needs) (search needs))
+    sym (l .inv .0 ∙ strobe-illegal (f .slots) (f .place .depth) (l .at) (l .left) (search needs) (search needs))
 
 add-wrap : tie.Need-add-wrap Inv-loop μ-loop
 add-wrap c = search needs
@@ -51,8 +51,8 @@ loop-again c =
     let l = c .before .before .before .before .before .loop in
     let f = c .before .before .before .before .before .before .args .t1 in
     rw (c .wrap .ensures) (
-      l .inv .0 ∙ strobe-legal (f .slots) (f .depth) (l .at) (l .left) (search needs) (c .before .if1 .left),
-      (wrapped-below (f .depth) (l .at) 1 (omega arith), l .inv .1 .1),
+      l .inv .0 ∙ strobe-legal (f .slots) (f .place .depth) (l .at) (l .left) (search needs) (c .before .if1 .left),
+      (wrapped-below (f .place .depth) (l .at) 1 (omega arith), l .inv .1 .1),
     )
 
 returns-2 : tie.Need-returns-2 Inv-loop μ-loop

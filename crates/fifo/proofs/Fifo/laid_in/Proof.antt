@@ -6,7 +6,7 @@ use mathlib.Core.Path.{_≡_, refl, sym, ap, _∙_}
 use borrow.Author.Needs.{needs}
 use Rattle.signals.proofs.Bools.{both}
 use Rattle.fifo.specs.declared.Pointers.{Pointers}
-use Rattle.fifo.specs.Queue.{Value, ill, isWell}
+use Rattle.fifo.specs.Queue.{Value, ill, isWell, plain}
 use Rattle.fifo.specs.Ring.{pointersOf, inRange, trusted}
 use Rattle.fifo.specs.Memory.{hasSlots, trustedIn}
 use Rattle.fifo.proofs.Form.{trusted-in}
@@ -22,14 +22,14 @@ has-slots-requires c κs = search needs
 
 -- what the tests say of the form
 formed : (c : tie.After-has-slots) → let a = c .before .before .before .before .args in
-    (c .before .is-in-range .result && c .has-slots .result) ≡ (inRange (a .self) && hasSlots (a .self .depth) (a .words .now) (a .strbs .now))
+    (c .before .is-in-range .result && c .has-slots .result) ≡ (inRange (a .self) && hasSlots (a .self .place .depth) (a .words .now) (a .strbs .now))
 formed c = rw (c .before .is-in-range .ensures, c .has-slots .ensures)
 
 accepted : (c : tie.Then1) → let a = c .before .before .before .before .before .args in
-    (inRange (a .self) ≡ true) × (hasSlots (a .self .depth) (a .words .now) (a .strbs .now) ≡ true)
+    (inRange (a .self) ≡ true) × (hasSlots (a .self .place .depth) (a .words .now) (a .strbs .now) ≡ true)
 accepted c =
     let a = c .before .before .before .before .before .args in
-    both (inRange (a .self)) (hasSlots (a .self .depth) (a .words .now) (a .strbs .now)) (sym (formed (c .before)) ∙ c .if1 .taken)
+    both (inRange (a .self)) (hasSlots (a .self .place .depth) (a .words .now) (a .strbs .now)) (sym (formed (c .before)) ∙ c .if1 .taken)
 
 copy-slots-requires : tie.Need-copy-slots-requires
 copy-slots-requires c κs = let h = accepted (c .before .before) in (h .0, h .1)
@@ -54,7 +54,7 @@ returns c =
     let gives : trustedIn (c .pointers .result) words strbs ≡ trusted (a .self) =
     ap (λ (p : Pointers). trustedIn p words strbs) (c .pointers .ensures)
     ∙ trusted-copied (pointersOf (a .self)) (a .self .slots) words strbs
-    (slots-kept (a .self .depth) (a .words .now) (a .strbs .now) words strbs (h .1) (copied .kept .1 .0) (copied .kept .1 .1 .0))
+    (slots-kept (a .self .place .depth) (a .words .now) (a .strbs .now) words strbs (h .1) (copied .kept .1 .0) (copied .kept .1 .1 .0))
     (copied .ensures .0)
     in
     record {
@@ -67,9 +67,9 @@ returns-2 : tie.Need-returns-2
 returns-2 c =
     let a = c .before .before .before .before .before .args in
     record {
-      gives = trusted-unformed (record { depth = 0; count = 0; oldest = 0 }) (a .words .now) (a .strbs .now)
+      gives = trusted-unformed (record { place = plain 0; count = 0; oldest = 0 }) (a .words .now) (a .strbs .now)
           (ap (λ (b : Bool). b && hasSlots 0 (a .words .now) (a .strbs .now)) (depth-0-unformed 0 0 _))
-          ∙ sym (unformed-ill (a .self) (hasSlots (a .self .depth) (a .words .now) (a .strbs .now)) (sym (formed (c .before)) ∙ c .if1 .left));
+          ∙ sym (unformed-ill (a .self) (hasSlots (a .self .place .depth) (a .words .now) (a .strbs .now)) (sym (formed (c .before)) ∙ c .if1 .left));
       past = record { of-words = refl; of-strbs = refl };
       kept = λ _. (refl, refl);
     }

@@ -9,13 +9,14 @@ use mathlib.Core.Path.{_≡_, refl, sym, ap, _∙_}
 use borrow.Author.Needs.{needs}
 use lib.ListN.{length, set, length-set}
 use lib.Seq.{drop-set-lt}
+use Rattle.fifo.specs.declared.Place.{Place}
 use Rattle.fifo.specs.declared.Fifo.{Fifo}
 use Rattle.fifo.specs.declared.Pointers.{Pointers}
 use Rattle.fifo.specs.Queue.{well, ready, shown, shownAs, next, when, maxDepth}
 use Rattle.fifo.specs.Ring.{fifoWith, queueOf, inRange, trusted, wrapped}
 use Rattle.fifo.specs.Memory.{slotsIn, fifoIn, hasSlots, trustedIn}
 use Rattle.fifo.specs.Promises.{StaysPast}
-use Rattle.fifo.proofs.Form.{Form, form-of, depth-within, oldest-within, count-within, place-below, shows-count, shows-oldest, shows-zeros, popQueue, pop-in-range, pop-depth, push-makes-next, no-push}
+use Rattle.fifo.proofs.Form.{Form, form-of, depth-within, oldest-within, count-within, place-below, shows-count, shows-oldest, shows-zeros, popQueue, pop-in-range, pop-place, push-makes-next, no-push}
 use Rattle.fifo.proofs.LentSlots.{in-range-any, slots-length, slots-at, slots-set, slots-words, slots-strbs, slots-kept, trusted-memory, trusted-empty}
 use Rattle.fifo.proofs.Stepping.{parts-cycle}
 use Rattle.fifo.proofs.Pointers.cycle.Statement.{statement}
@@ -47,44 +48,45 @@ oldest-inside : (c : tie.Start) → (c .args .self .oldest < length (c .args .wo
 oldest-inside c =
     let a = c .args in
     let h = form-of (given c) (c .pre .0) .oldest in (
-      omega (arith, h, slots-words (a .self .depth) (a .words .now) (a .strbs .now) (c .pre .1)),
-      omega (arith, h, slots-strbs (a .self .depth) (a .words .now) (a .strbs .now) (c .pre .1)),
+      omega (arith, h, slots-words (a .self .place .depth) (a .words .now) (a .strbs .now) (c .pre .1)),
+      omega (arith, h, slots-strbs (a .self .place .depth) (a .words .now) (a .strbs .now) (c .pre .1)),
     )
 
-mul-t19 : tie.Need-mul-t19
-mul-t19 c = let a = c .before .before .before .before .before in omega (arith, oldest-within (given a) (a .pre .0))
+mul-t20 : tie.Need-mul-t20
+mul-t20 c = let a = c .before .before .before .before .before in omega (arith, oldest-within (given a) (a .pre .0))
 
-slice-read-t21 : tie.Need-slice-read-t21
-slice-read-t21 c = oldest-inside (c .before .before .before .before .before .before) .0
+slice-read-t22 : tie.Need-slice-read-t22
+slice-read-t22 c = oldest-inside (c .before .before .before .before .before .before) .0
 
-slice-read-t23 : tie.Need-slice-read-t23
-slice-read-t23 c = oldest-inside (c .before .before .before .before .before .before .before) .1
+slice-read-t24 : tie.Need-slice-read-t24
+slice-read-t24 c = oldest-inside (c .before .before .before .before .before .before .before) .1
 
 popped-requires : tie.Need-popped-requires
 popped-requires c κs = let a = c .before .before .before .before .before in in-range-any (a .args .self) [] _ ∙ a .pre .0
 
--- the function's start, as seen from where the oldest has left, and the FIFO from which it has left where the sink is ready
-abbrev start : tie.After-popped → tie.Start
-start c = c .before .before .before .before .before .before
+-- the function's start, as seen from where the oldest has left and the place is copied out, and the FIFO from
+-- which it has left where the sink is ready
+abbrev start : tie.After-place → tie.Start
+start c = c .before .before .before .before .before .before .before
 
-abbrev popped : tie.After-popped → Fifo
-popped c = fifoIn (c .popped .result) (start c .args .words .now) (start c .args .strbs .now)
+abbrev popped : tie.After-place → Fifo
+popped c = fifoIn (c .before .popped .result) (start c .args .words .now) (start c .args .strbs .now)
 
-pops : (c : tie.After-popped) → trusted (popped c) ≡ well (popQueue (queueOf (given (start c))) (start c .args .sink))
-pops c = c .popped .ensures (slotsIn (start c .args .words .now) (start c .args .strbs .now))
+pops : (c : tie.After-place) → trusted (popped c) ≡ well (popQueue (queueOf (given (start c))) (start c .args .sink))
+pops c = c .before .popped .ensures (slotsIn (start c .args .words .now) (start c .args .strbs .now))
 
-in-range : (c : tie.After-popped) → inRange (popped c) ≡ true
+in-range : (c : tie.After-place) → inRange (popped c) ≡ true
 in-range c = pop-in-range (given (start c)) (popped c) (start c .args .sink) (pops c)
 
-same-depth : (c : tie.After-popped) → popped c .depth ≡ start c .args .self .depth
-same-depth c = pop-depth (given (start c)) (popped c) (start c .args .sink) (pops c)
+same-depth : (c : tie.After-place) → popped c .place .depth ≡ start c .args .self .place .depth
+same-depth c = ap (λ (p : Place). p .depth) (pop-place (given (start c)) (popped c) (start c .args .sink) (pops c))
 
 -- its ring has slots in the memory
-room-words : (c : tie.After-popped) → popped c .depth ≤ length (start c .args .words .now)
-room-words c = let a = start c .args in omega (arith, same-depth c, slots-words (a .self .depth) (a .words .now) (a .strbs .now) (start c .pre .1))
+room-words : (c : tie.After-place) → popped c .place .depth ≤ length (start c .args .words .now)
+room-words c = let a = start c .args in omega (arith, same-depth c, slots-words (a .self .place .depth) (a .words .now) (a .strbs .now) (start c .pre .1))
 
-room-strbs : (c : tie.After-popped) → popped c .depth ≤ length (start c .args .strbs .now)
-room-strbs c = let a = start c .args in omega (arith, same-depth c, slots-strbs (a .self .depth) (a .words .now) (a .strbs .now) (start c .pre .1))
+room-strbs : (c : tie.After-place) → popped c .place .depth ≤ length (start c .args .strbs .now)
+room-strbs c = let a = start c .args in omega (arith, same-depth c, slots-strbs (a .self .place .depth) (a .words .now) (a .strbs .now) (start c .pre .1))
 
 add-wrap : tie.Need-add-wrap
 add-wrap c =
@@ -95,7 +97,7 @@ wrap-requires : tie.Need-wrap-requires
 wrap-requires c κs = search needs
 
 -- the slot past the end is in the ring
-end-below : (c : tie.After-wrap) → c .wrap .result < popped (c .before .before) .depth
+end-below : (c : tie.After-wrap) → c .wrap .result < popped (c .before .before) .place .depth
 end-below c = let d = c .before .before in rw (c .wrap .ensures) (place-below (popped d) _ (in-range d) (omega arith))
 
 mul-words : tie.Need-mul-words
@@ -140,38 +142,38 @@ shows c =
 
 -- whether or not a payload joined, it is the rule's next
 gives : (c : tie.Joined3) → let a = start (c .before) .args in
-    trustedIn (record { depth = popped (c .before) .depth; count = c .if3 .held; oldest = popped (c .before) .oldest }) (c .if3 .words) (c .if3 .strbs)
+    trustedIn (record { place = popped (c .before) .place; count = c .if3 .held; oldest = popped (c .before) .oldest }) (c .if3 .words) (c .if3 .strbs)
     ≡ well (next (queueOf (given (start (c .before)))) (when (a .valid) (a .payload ∷ [])) (a .sink))
 gives c =
     let d = c .before in
     let a = start d .args in
     let q = queueOf (given (start d)) in
-    let left : Pointers = record { depth = popped d .depth; count = c .if3 .held; oldest = popped d .oldest } in
-    let room = sym (ap (λ (b : Bool). a .valid && b) (d .before .before .has-room .ensures (slotsIn (a .words .now) (a .strbs .now)))) in
-    let slots : hasSlots (popped d .depth) (c .if3 .words) (c .if3 .strbs) ≡ true =
-    slots-kept (popped d .depth) (a .words .now) (a .strbs .now) (c .if3 .words) (c .if3 .strbs) (ap (λ (n : ℕ). hasSlots n (a .words .now) (a .strbs .now)) (same-depth d) ∙ start d .pre .1) (words-length c) (strbs-length c)
+    let left : Pointers = record { place = popped d .place; count = c .if3 .held; oldest = popped d .oldest } in
+    let room = sym (ap (λ (b : Bool). a .valid && b) (d .before .before .before .has-room .ensures (slotsIn (a .words .now) (a .strbs .now)))) in
+    let slots : hasSlots (popped d .place .depth) (c .if3 .words) (c .if3 .strbs) ≡ true =
+    slots-kept (popped d .place .depth) (a .words .now) (a .strbs .now) (c .if3 .words) (c .if3 .strbs) (ap (λ (n : ℕ). hasSlots n (a .words .now) (a .strbs .now)) (same-depth d) ∙ start d .pre .1) (words-length c) (strbs-length c)
     in
     trusted-memory left (c .if3 .words) (c .if3 .strbs) slots
     ∙ ⊎-elim
     (λ w.
     rw (w .2, w .3, w .4, slots-set (a .words .now) (a .strbs .now) (w .1 .result) (a .payload .«data») (a .payload .strb), w .1 .ensures)
     (push-makes-next (given (start d)) (popped d) (a .sink) (pops d) (a .valid) (a .payload)
-    (slots-length (a .words .now) (a .strbs .now) (popped d .depth) (room-words d) (room-strbs d))
+    (slots-length (a .words .now) (a .strbs .now) (popped d .place .depth) (room-words d) (room-strbs d))
     (room ∙ w .0 .taken)))
     (λ w. rw (w .1, w .2, w .3) (no-push (given (start d)) (popped d) (a .sink) (pops d) (a .valid) (a .payload) (room ∙ w .0 .left)))
     (c .if3 .came)
 
 -- memory past the ring stays
-stays : (c : tie.Joined3) → let a = start (c .before) .args in StaysPast (a .self .depth) (a .words .now) (a .strbs .now) (c .if3 .words) (c .if3 .strbs)
+stays : (c : tie.Joined3) → let a = start (c .before) .args in StaysPast (a .self .place .depth) (a .words .now) (a .strbs .now) (c .if3 .words) (c .if3 .strbs)
 stays c =
     let d = c .before in
     let a = start d .args in
     ⊎-elim
     (λ w.
-    let below : w .1 .result < a .self .depth = omega (arith, end-below (record { before = record { before = d; if3 = w .0 }; wrap = w .1 }), same-depth d) in
+    let below : w .1 .result < a .self .place .depth = omega (arith, end-below (record { before = record { before = d; if3 = w .0 }; wrap = w .1 }), same-depth d) in
     record {
-      of-words = rw (w .2) (drop-set-lt (a .self .depth) (a .words .now) (w .1 .result) (a .payload .«data») below);
-      of-strbs = rw (w .3) (drop-set-lt (a .self .depth) (a .strbs .now) (w .1 .result) (a .payload .strb) below);
+      of-words = rw (w .2) (drop-set-lt (a .self .place .depth) (a .words .now) (w .1 .result) (a .payload .«data») below);
+      of-strbs = rw (w .3) (drop-set-lt (a .self .place .depth) (a .strbs .now) (w .1 .result) (a .payload .strb) below);
     })
     (λ w. record { of-words = rw (w .1); of-strbs = rw (w .2) })
     (c .if3 .came)
@@ -180,11 +182,11 @@ returns-2 : tie.Need-returns-2
 returns-2 c =
     let d = c .before in
     let a = start d .args in (
-      rw (d .before .before .before .if1 .left)
+      rw (d .before .before .before .before .if1 .left)
           (parts-cycle (queueOf (given (start d))) (when (a .valid) (a .payload ∷ [])) (a .sink) _ _ _ _
-          (d .before .before .has-room .ensures (slotsIn (a .words .now) (a .strbs .now)))
+          (d .before .before .before .has-room .ensures (slotsIn (a .words .now) (a .strbs .now)))
           (sym (shows-count (given (start d))))
-          (shows (d .before))
+          (shows (d .before .before))
           (gives c)),
       stays c,
     )
@@ -197,9 +199,9 @@ cycle-spec =
     silent-requires
     returns
     has-room-requires
-    mul-t19
-    slice-read-t21
-    slice-read-t23
+    mul-t20
+    slice-read-t22
+    slice-read-t24
     popped-requires
     add-wrap
     wrap-requires

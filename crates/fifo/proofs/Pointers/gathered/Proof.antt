@@ -19,25 +19,25 @@ has-slots-requires c κs = search needs
 
 -- what the tests say of the form
 formed : (c : tie.After-has-slots) → let a = c .before .before .before .before .args in
-    (c .before .is-in-range .result && c .has-slots .result) ≡ (inRange (fifoIn (a .self) (a .words .now) (a .strbs .now)) && hasSlots (a .self .depth) (a .words .now) (a .strbs .now))
+    (c .before .is-in-range .result && c .has-slots .result) ≡ (inRange (fifoIn (a .self) (a .words .now) (a .strbs .now)) && hasSlots (a .self .place .depth) (a .words .now) (a .strbs .now))
 formed c = let a = c .before .before .before .before .args in rw (c .before .is-in-range .ensures (slotsIn (a .words .now) (a .strbs .now)), c .has-slots .ensures)
 
 accepted : (c : tie.Then1) → let a = c .before .before .before .before .before .args in
-    (inRange (fifoIn (a .self) (a .words .now) (a .strbs .now)) ≡ true) × (hasSlots (a .self .depth) (a .words .now) (a .strbs .now) ≡ true)
+    (inRange (fifoIn (a .self) (a .words .now) (a .strbs .now)) ≡ true) × (hasSlots (a .self .place .depth) (a .words .now) (a .strbs .now) ≡ true)
 accepted c =
     let a = c .before .before .before .before .before .args in
-    both (inRange (fifoIn (a .self) (a .words .now) (a .strbs .now))) (hasSlots (a .self .depth) (a .words .now) (a .strbs .now)) (sym (formed (c .before)) ∙ c .if1 .taken)
+    both (inRange (fifoIn (a .self) (a .words .now) (a .strbs .now))) (hasSlots (a .self .place .depth) (a .words .now) (a .strbs .now)) (sym (formed (c .before)) ∙ c .if1 .taken)
 
 slots-in-requires : tie.Need-slots-in-requires
 slots-in-requires c κs =
-    let a = c .before .before .before .before .before .args in
-    let h = accepted c in
+    let a = c .before .before .before .before .before .before .args in
+    let h = accepted (c .before) in
     (depth-within (fifoIn (a .self) (a .words .now) (a .strbs .now)) (h .0), h .1)
 
 returns : tie.Need-returns
 returns c =
-    let a = c .before .before .before .before .before .before .args in
-    sym (trusted-copied (a .self) (c .slots-in .result) (a .words .now) (a .strbs .now) (accepted (c .before) .1) (sym (c .slots-in .ensures)))
+    let a = c .before .before .before .before .before .before .before .args in
+    sym (trusted-copied (a .self) (c .slots-in .result) (a .words .now) (a .strbs .now) (accepted (c .before .before) .1) (sym (c .slots-in .ensures)))
 
 returns-2 : tie.Need-returns-2
 returns-2 c =

@@ -10,7 +10,7 @@ capacity-requires : tie.Need-capacity-requires
 capacity-requires c κs = search needs
 
 returns : tie.Need-returns
-returns c slots = rw (c .before .capacity .ensures slots) (sym (ready-count (fifoWith (c .before .before .args .self) slots)))
+returns c slots = rw (c .before .capacity .ensures) (sym (ready-count (fifoWith (c .before .before .before .args .self) slots)))
 
 pub has-room-spec : {M : Type 1} → statement M
 has-room-spec = tie.close (tie.spec capacity-requires returns)

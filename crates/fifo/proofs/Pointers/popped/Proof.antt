@@ -19,21 +19,21 @@ leaves : (sink : Bool) (count : ℕ) → (sink && ltb 0 count) ≡ true → (sin
 leaves sink count e = let h = both sink (ltb 0 count) e in (h .0, ltb-true 0 count (h .1))
 
 add-wrap : tie.Need-add-wrap
-add-wrap c = let a = c .before .before .before in omega (arith, oldest-within (fifoWith (a .args .self) []) (a .pre))
+add-wrap c = let a = c .before .before .before .before in omega (arith, oldest-within (fifoWith (a .args .self) []) (a .pre))
 
 wrap-requires : tie.Need-wrap-requires
 wrap-requires c κs = search needs
 
 sub-count : tie.Need-sub-count
 sub-count c =
-    let a = c .before .before .before .before .before in
-    omega (arith, leaves (a .args .sink) (a .args .self .count) (c .before .before .before .if1 .taken) .1)
+    let a = c .before .before .before .before .before .before in
+    omega (arith, leaves (a .args .sink) (a .args .self .count) (c .before .before .before .before .if1 .taken) .1)
 
 returns : tie.Need-returns
 returns c slots =
-    let a = c .before .before .before .before .before in
+    let a = c .before .before .before .before .before .before in
     let f = fifoWith (a .args .self) slots in
-    let on = leaves (a .args .sink) (f .count) (c .before .before .before .if1 .taken) in
+    let on = leaves (a .args .sink) (f .count) (c .before .before .before .before .if1 .taken) in
     rw (on .0, c .before .wrap .ensures) (pop-leaves-rest f (in-range-any (a .args .self) slots [] ∙ a .pre) (on .1))
 
 returns-2 : tie.Need-returns-2

@@ -21,13 +21,13 @@ has-slots-requires c κs = search needs
 
 -- what the tests say of the form
 formed : (c : tie.After-has-slots) → let a = c .before .before .before .before .args in
-    (c .before .is-in-range .result && c .has-slots .result) ≡ (inRange (fifoIn (a .self) (a .words .now) (a .strbs .now)) && hasSlots (a .self .depth) (a .words .now) (a .strbs .now))
+    (c .before .is-in-range .result && c .has-slots .result) ≡ (inRange (fifoIn (a .self) (a .words .now) (a .strbs .now)) && hasSlots (a .self .place .depth) (a .words .now) (a .strbs .now))
 formed c = let a = c .before .before .before .before .args in rw (c .before .is-in-range .ensures (slotsIn (a .words .now) (a .strbs .now)), c .has-slots .ensures)
 
 -- where nothing is refused, the pointers have their form in the memory and the strobe is legal
 accepted : (c : tie.Then1) →
     let a = c .before .before .before .before .before .before .args in
-    ((inRange (fifoIn (a .self) (a .words .now) (a .strbs .now)) && hasSlots (a .self .depth) (a .words .now) (a .strbs .now)) ≡ true)
+    ((inRange (fifoIn (a .self) (a .words .now) (a .strbs .now)) && hasSlots (a .self .place .depth) (a .words .now) (a .strbs .now)) ≡ true)
     × (legalStrb (a .payload) ≡ true)
 accepted c =
     let tests = c .before .before in
@@ -39,7 +39,7 @@ cycle-requires : tie.Need-cycle-requires
 cycle-requires c κs =
     let h = accepted (c .before .before) in
     let a = c .before .before .before .before .before .before .before .before .args in
-    let f = both (inRange (fifoIn (a .self) (a .words .now) (a .strbs .now))) (hasSlots (a .self .depth) (a .words .now) (a .strbs .now)) (h .0) in
+    let f = both (inRange (fifoIn (a .self) (a .words .now) (a .strbs .now))) (hasSlots (a .self .place .depth) (a .words .now) (a .strbs .now)) (h .0) in
     (f .0, f .1)
 
 same-length : tie.Need-same-length

@@ -36,11 +36,11 @@ loop-less c = omega arith
 loop-again : tie.Need-loop-again Inv-loop μ-loop
 loop-again c =
     let l = c .before .before .before .loop in
-    (omega arith, rw (c .reserved .ensures) (any-joins reservedBit (l .i) _ (l .any) _ (l .inv .1) (omega arith)))
+    (omega arith, rw (c .reserved .ensures) (any-joins 0 reservedBit (l .i) _ (l .any) _ (l .inv .1) (omega arith)))
 
 returns : tie.Need-returns Inv-loop μ-loop
 returns c =
-    let l = c .before .loop in any-all reservedBit (l .i) _ (l .any) _ (l .inv .1) (omega arith)
+    let l = c .before .loop in any-all 0 reservedBit (l .i) _ (l .any) _ (l .inv .1) (omega arith)
 
 pub any-reserved-spec : {M : Type 1} → statement M
 any-reserved-spec =

@@ -1,0 +1,24 @@
+-- What a new chain's places are once they are read off a lent list, for the contracts of private functions. No promise of a public
+-- call cites this file. Assumes nothing.
+use Prim.Native.Nat.{ℕ}
+use mathlib.Core.Bool.{cond}
+use mathlib.Core.List.{List}
+use mathlib.Core.Path.{_≡_}
+use lib.ListN.{length, take, set, replicate}
+use Rattle.fifo.specs.declared.Place.{Place}
+use Rattle.fifo.specs.Queue.{plain}
+use Rattle.chain.specs.declared.Places.{Places}
+use Rattle.chain.specs.Calls.{maxFifos, legalCount}
+
+-- room for so many, or for none where their number is refused
+abbrev pub blank : ℕ → Places
+blank count = record { count = cond (legalCount count) count 0; listed = replicate maxFifos (plain 2) }
+
+-- place i is this one
+abbrev pub placed : Places → ℕ → Place → Places
+placed r i place = record { count = r .count; listed = set (r .listed) i place }
+
+-- as many as the lent list has, and none where their number is refused, in its order
+pub record Lists (lent : List Place) (r : Places) : Type 0 where
+  pub count : r .count ≡ cond (legalCount (length lent)) (length lent) 0
+  pub listed : take (r .count) (r .listed) ≡ take (r .count) lent

@@ -1,0 +1,51 @@
+// The places of a new chain, read off a lent list. The proof of `Places::read` follows its code by hand: of a lent slice of structs
+// nothing is made by itself.
+ghost use mathlib.Core.Path.{_≡_};
+ghost use Prim.Native.Nat.{_<_};
+ghost use Rattle.chain.specs.Calls.{maxFifos};
+ghost use Rattle.chain.specs.Listing.{blank, placed, Lists};
+use super::MAX_FIFOS;
+use super::Places;
+use super::form::is_legal_count;
+use fifo::Place;
+
+impl Places {
+    // Room for so many places, or for none.
+    fn blank(count: usize) -> Places
+        ensures { λ r. ⌜ r ≡ blank count ⌝ }
+    {
+        let legal = if is_legal_count(count) { count } else { 0 };
+        let smallest = Place {
+            depth: 2,
+            early_stall: false,
+        };
+        Places {
+            count: legal,
+            listed: [smallest; MAX_FIFOS],
+        }
+    }
+
+    // Place i is this one.
+    fn with(mut self, i: usize, place: Place) -> Places
+        requires { ⌜ i < maxFifos ⌝ }
+        ensures { λ r. ⌜ r ≡ placed self i place ⌝ }
+    {
+        self.listed[i] = place;
+        self
+    }
+
+    // Reads a lent list whose number of places is not refused.
+    pub(crate) fn read(places: &[Place]) -> Places
+        ensures { λ r. ⌜ Lists (now (places .entry)) r ⌝ }
+    {
+        let mut read = Places::blank(places.len());
+        let count = read.count;
+        let mut i = 0;
+        while i < count {
+            let place = places[i];
+            read = read.with(i, place);
+            i += 1;
+        }
+        read
+    }
+}
