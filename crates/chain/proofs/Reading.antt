@@ -1,39 +1,20 @@
 -- What holds while `Places::read` reads a lent list, from blank places to the end.
 -- After i turns the first i places are the list's first i, and a turn puts the list's next place at i.
 -- Assumes nothing.
-use mathlib.Core.Path.{_≡_, refl, sym, _∙_, ap, subst}
-use Prim.Native.Nat.{ℕ, zero, suc, _+_, _<_, _≤_, zero-le}
-use native.Mathlib.Nat.{not-suc-le-zero, le-of-suc-le-suc, le-refl, le-antisymm, lt-of-lt-of-le}
+use mathlib.Core.Path.{_≡_, refl, sym, _∙_, subst}
+use Prim.Native.Nat.{ℕ, _+_, _<_, _≤_, zero-le}
+use native.Mathlib.Nat.{le-refl, le-antisymm, lt-of-lt-of-le}
 use native.Mathlib.Numerals.{add-one, add-one-le}
 use mathlib.Core.Bool.{Bool, true, false, _&&_, cond}
-use mathlib.Core.List.{List, [], _∷_}
+use mathlib.Core.List.{List}
 use lib.Dec.{T as Holds, leb, leb→le}
-use lib.ListN.{length, getD, set, take, length-set, length-replicate}
+use lib.ListN.{length, getD, take, length-set, length-replicate}
+use lib.Seq.{take-suc, take-suc-set}
 use Rattle.fifo.specs.declared.Place.{Place}
 use Rattle.chain.specs.declared.Places.{Places}
 use Rattle.fifo.specs.Queue.{plain}
 use Rattle.chain.specs.Calls.{maxFifos, legalCount}
 use Rattle.chain.specs.Listing.{blank, placed, Lists}
-
--- ---- lists
--- a list's first element, x where it has none
-abbrev headOr : {A : Type 0} → A → List A → A
-headOr x [] = x
-headOr x (y ∷ ys) = y
-
--- a list without its first element
-abbrev rest : {A : Type 0} → List A → List A
-rest [] = []
-rest (y ∷ ys) = ys
-
--- two lists that begin alike still do, one element further, once the one has the other's next element
-take-set : {A : Type 0} (xs ys : List A) (i : ℕ) (d : A) → i < length xs → i < length ys → take i xs ≡ take i ys
-    → take (suc i) (set xs i (getD ys i d)) ≡ take (suc i) ys
-take-set [] ys i d l m e = absurd (not-suc-le-zero l)
-take-set (x ∷ xs) [] i d l m e = absurd (not-suc-le-zero m)
-take-set (x ∷ xs) (y ∷ ys) zero d l m e = refl
-take-set (x ∷ xs) (y ∷ ys) (suc i) d l m e =
-    λ j. headOr x (e j) ∷ take-set xs ys i d (le-of-suc-le-suc l) (le-of-suc-le-suc m) (ap rest e) j
 
 -- ---- how many places are read
 -- as many as the list has, none where their number is refused
@@ -79,8 +60,7 @@ reading-on lent read i d less so =
       count = so .count;
       within = add-one-le less;
       room = length-set (read .listed) i (getD lent i d) ∙ so .room;
-      listed = subst (λ (k : ℕ). take k (set (read .listed) i (getD lent i d)) ≡ take k lent) (sym (add-one i))
-          (take-set (read .listed) lent i d fits (lt-of-lt-of-le less (wanted-in lent)) (so .listed));
+      listed = rw (add-one i, take-suc-set (read .listed) i (getD lent i d) fits, so .listed) (sym (take-suc lent i d (lt-of-lt-of-le less (wanted-in lent))));
     }
   where
     fits : i < length (read .listed)

@@ -12,6 +12,7 @@ use super::MAX_FIFOS;
 use super::NewChain;
 use fifo::Fifo;
 use fifo::Place;
+use fifo::SMALLEST;
 use signals::Outcome;
 
 pub(crate) fn is_accepted(outcome: Outcome) -> bool
@@ -28,11 +29,7 @@ impl Chain {
     pub(crate) fn shortest() -> Chain
         ensures { λ r. ⌜ value r ≡ well (empty (plain 2) ∷ []) ⌝ }
     {
-        let smallest = Place {
-            depth: 2,
-            early_stall: false,
-        };
-        let made = Fifo::new(smallest);
+        let made = Fifo::new(SMALLEST);
         let two = made.fifo;
         let fifos = [two; MAX_FIFOS];
         Chain {

@@ -9,8 +9,8 @@ ghost use Rattle.chain.specs.Cycling.{Roomy, lineIn};
 use super::Chain;
 use super::MAX_FIFOS;
 use fifo::MAX_DEPTH;
-use fifo::Place;
 use fifo::Pointers;
+use fifo::SMALLEST;
 
 // The slots of all parts.
 pub(crate) const SLOTS: usize = MAX_FIFOS * MAX_DEPTH;
@@ -24,16 +24,12 @@ impl Chain {
     {
         self.has_all();
         let count = self.count;
-        let nowhere = Place {
-            depth: 0,
-            early_stall: false,
-        };
-        let none = Pointers {
-            place: nowhere,
+        let unused = Pointers {
+            place: SMALLEST,
             count: 0,
             oldest: 0,
         };
-        let mut fifos = [none; MAX_FIFOS];
+        let mut fifos = [unused; MAX_FIFOS];
         let mut j = 0;
         while j < count {
             let f = self.fifos[j];

@@ -1,5 +1,6 @@
-// The places of a new chain, read off a lent list. The proof of `Places::read` follows its code by hand: of a lent slice of structs
-// nothing is made by itself.
+// The places of a new chain, read off a lent list.
+//
+// A slice of structs is not walked by the prover itself: `proofs/Places/read` follows the code of `Places::read` statement by statement.
 ghost use mathlib.Core.Path.{_≡_};
 ghost use Prim.Native.Nat.{_<_};
 ghost use Rattle.chain.specs.Calls.{maxFifos};
@@ -8,6 +9,7 @@ use super::MAX_FIFOS;
 use super::Places;
 use super::form::is_legal_count;
 use fifo::Place;
+use fifo::SMALLEST;
 
 impl Places {
     // Room for so many places, or for none.
@@ -15,13 +17,9 @@ impl Places {
         ensures { λ r. ⌜ r ≡ blank count ⌝ }
     {
         let legal = if is_legal_count(count) { count } else { 0 };
-        let smallest = Place {
-            depth: 2,
-            early_stall: false,
-        };
         Places {
             count: legal,
-            listed: [smallest; MAX_FIFOS],
+            listed: [SMALLEST; MAX_FIFOS],
         }
     }
 

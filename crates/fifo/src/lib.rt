@@ -31,6 +31,12 @@ pub struct Place {
     pub early_stall: bool,
 }
 
+// Where a new FIFO or chain that is refused has its one FIFO.
+pub const SMALLEST: Place = Place {
+    depth: 2,
+    early_stall: false,
+};
+
 // A FIFO, document 01's stage. `count` payloads lie in the slots from `oldest` on, around the end at the depth of its place.
 #[repr(C)]
 pub struct Fifo {
@@ -81,13 +87,9 @@ impl Fifo {
                 fifo: Fifo::empty(place),
             };
         }
-        let smallest = Place {
-            depth: 2,
-            early_stall: false,
-        };
         NewFifo {
             outcome: Outcome::Refused(Refusal::BadDepth),
-            fifo: Fifo::empty(smallest),
+            fifo: Fifo::empty(SMALLEST),
         }
     }
 

@@ -63,11 +63,35 @@ pub struct Monitor {
     pub due: u32,
 }
 
-/// A FIFO as it is kept: `count` payloads in the slots from `oldest` on, around the end at `depth`.
+/// A place in a chain: the depth of the FIFO there, and whether it is early-stall or plain.
+#[repr(C)]
+#[derive(Clone, Copy, PartialEq, Eq, Hash, Debug)]
+pub struct Place {
+    pub depth: usize,
+    pub early_stall: bool,
+}
+
+impl Place {
+    pub const fn plain(depth: usize) -> Self {
+        Place {
+            depth,
+            early_stall: false,
+        }
+    }
+
+    pub const fn early_stall(depth: usize) -> Self {
+        Place {
+            depth,
+            early_stall: true,
+        }
+    }
+}
+
+/// A FIFO as it is kept: `count` payloads in the slots from `oldest` on, around the end at its place's depth.
 #[repr(C)]
 #[derive(Clone, Copy, PartialEq, Eq, Debug)]
 pub struct Fifo {
-    pub depth: usize,
+    pub place: Place,
     pub count: usize,
     pub oldest: usize,
     pub slots: [Payload; MAX_DEPTH],

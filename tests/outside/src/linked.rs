@@ -40,7 +40,7 @@ extern "C" {
         data: *const u32,
         datas: usize,
     ) -> u8;
-    fn floealder_fifo_new(depth: usize) -> New<Fifo>;
+    fn floealder_fifo_new(place: Place) -> New<Fifo>;
     fn floealder_fifo_step(
         fifo: Fifo,
         valid: bool,
@@ -52,7 +52,7 @@ extern "C" {
     fn floealder_stream_fields(control: u8) -> StreamFields;
     fn floealder_any_reserved(control: *const u8, controls: usize) -> bool;
     fn floealder_memory_fields(control: u8) -> MemFields;
-    fn floealder_chain_new(depths: *const usize, count: usize) -> New<Chain>;
+    fn floealder_chain_new(places: *const Place, count: usize) -> New<Chain>;
     fn floealder_chain_step(
         chain: Chain,
         valid: bool,
@@ -157,8 +157,8 @@ pub fn monitor_feed(record: &mut Monitor, control: &[u8], data: &[u32]) -> u8 {
     }
 }
 
-pub fn fifo_new(depth: usize) -> New<Fifo> {
-    unsafe { floealder_fifo_new(depth) }
+pub fn fifo_new(place: Place) -> New<Fifo> {
+    unsafe { floealder_fifo_new(place) }
 }
 
 pub fn fifo_step(f: Fifo, valid: bool, p: Payload, sink: bool, clear: bool) -> Stepped<Fifo> {
@@ -181,8 +181,8 @@ pub fn memory_fields(control: u8) -> MemFields {
     unsafe { floealder_memory_fields(control) }
 }
 
-pub fn chain_new(depths: &[usize]) -> New<Chain> {
-    unsafe { floealder_chain_new(depths.as_ptr(), depths.len()) }
+pub fn chain_new(places: &[Place]) -> New<Chain> {
+    unsafe { floealder_chain_new(places.as_ptr(), places.len()) }
 }
 
 pub fn chain_step(c: Chain, valid: bool, p: Payload, sink: bool, clear: bool) -> Stepped<Chain> {

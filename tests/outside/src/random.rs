@@ -79,7 +79,7 @@ pub fn agree(cases: u64, kinds: &[&str], compare: impl Fn(&Random) -> Compared) 
 /// The same where one random case has answers of several kinds.
 pub fn agree_in_all(
     cases: u64,
-    kinds: &[&str],
+    kinds: &[impl AsRef<str>],
     compare: impl Fn(&Random) -> Result<BTreeSet<String>, String>,
 ) {
     let mut reached = BTreeSet::new();
@@ -89,7 +89,7 @@ pub fn agree_in_all(
             Err(difference) => panic!("seed {seed}: {difference}"),
         };
     }
-    let wanted: BTreeSet<String> = kinds.iter().map(|kind| kind.to_string()).collect();
+    let wanted: BTreeSet<String> = kinds.iter().map(|kind| kind.as_ref().to_string()).collect();
     assert_eq!(reached, wanted, "the kinds of answers");
 }
 

@@ -1,6 +1,7 @@
 //! Random FIFOs, chains and records as they are kept: well-formed ones, with anything in what is unused, and damaged ones.
 
-use crate::answers::{Chain, Fifo, Monitor, Payload, MAX_DEPTH, MAX_FIFOS};
+use crate::answers::{Chain, Fifo, Monitor, Payload, Place, MAX_DEPTH, MAX_FIFOS};
+use crate::models::fifo::capacity;
 use crate::models::monitor;
 use crate::random::Random;
 
@@ -20,59 +21,85 @@ pub fn payload(random: &Random) -> Payload {
     payload
 }
 
-/// A legal depth: a small one, whose ring is soon full and gone around, one at an edge, or any.
-pub fn legal_depth(random: &Random) -> usize {
-    match random.below(4) {
-        0 => random.pick(&[2, 4]),
+/// A legal place of this kind, of a small depth, whose ring is soon full and gone around, one at an edge, or any.
+fn legal_place_of(random: &Random, early_stall: bool) -> Place {
+    let least = if early_stall { 4 } else { 2 };
+    let depth = match random.below(4) {
+        0 => random.pick(&[least, least + 2]),
         1 => random.pick(&[16, 18, MAX_DEPTH - 2, MAX_DEPTH]),
-        2 => 2 * (1 + random.below(8)),
-        _ => 2 * (1 + random.below(MAX_DEPTH / 2)),
-    }
+        2 => least + 2 * random.below(8),
+        _ => least + 2 * random.below((MAX_DEPTH - least) / 2 + 1),
+    };
+    Place { depth, early_stall }
 }
 
-pub fn any_depth(random: &Random) -> usize {
+pub fn legal_place(random: &Random) -> Place {
+    legal_place_of(random, random.coin())
+}
+
+/// Legal places of a chain: all of one kind, or mixed.
+pub fn legal_places(random: &Random, count: usize) -> Vec<Place> {
+    let one_kind = random.coin().then(|| random.coin());
+    (0..count)
+        .map(|_| legal_place_of(random, one_kind.unwrap_or_else(|| random.coin())))
+        .collect()
+}
+
+/// A place of any form. Depth 2 is legal for a plain FIFO alone.
+pub fn any_place(random: &Random) -> Place {
     let past = MAX_DEPTH + 1;
-    match random.below(5) {
+    let depth = match random.below(6) {
         0 => random.pick(&[0, 1, 3, 17, past - 2, past, past + 1]),
         1 => random.pick(&[256, 1 << 32, usize::MAX - 1, usize::MAX]),
         2 => random.below(past + 5),
-        _ => legal_depth(random),
-    }
+        3 => 2,
+        _ => return legal_place(random),
+    };
+    let early_stall = random.coin();
+    Place { depth, early_stall }
 }
 
-/// A well-formed FIFO. Unused slots hold anything.
-pub fn well_fifo(random: &Random) -> Fifo {
-    let depth = legal_depth(random);
-    let count = random.pick(&[0, 1, depth - 1, depth, random.below(depth + 1)]);
-    filled_fifo(random, depth, random.below(depth), count)
+/// A well-formed FIFO of this place. Unused slots hold anything.
+fn well_fifo(random: &Random, place: Place) -> Fifo {
+    let most = capacity(place);
+    let count = random.pick(&[0, 1, most - 1, most, random.below(most + 1)]);
+    filled_fifo(random, place, random.below(place.depth), count)
 }
 
-/// A well-formed FIFO of these numbers. Unused slots hold anything.
-pub fn filled_fifo(random: &Random, depth: usize, oldest: usize, count: usize) -> Fifo {
+/// A FIFO of these numbers that holds legal payloads. Unused slots hold anything.
+pub fn filled_fifo(random: &Random, place: Place, oldest: usize, count: usize) -> Fifo {
     let mut slots = [(); MAX_DEPTH].map(|()| Payload {
         data: random.word(),
         strb: random.byte(),
     });
     for i in 0..count {
-        slots[(oldest + i) % depth] = legal_payload(random);
+        slots[(oldest + i) % place.depth] = legal_payload(random);
     }
     Fifo {
-        depth,
+        place,
         count,
         oldest,
         slots,
     }
 }
 
-/// Breaks one field of a FIFO's form, or a strobe in any slot, held or not.
+/// Breaks one field of a FIFO's form, its kind too, or a strobe in any slot, held or not. Or the FIFO is filled to its
+/// depth, which is one too many where it is early-stall, or becomes an early-stall one of depth 2.
 pub fn damage_fifo(random: &Random, fifo: &mut Fifo) {
-    let (depth, past) = (fifo.depth, MAX_DEPTH + 1);
-    match random.below(4) {
+    let (depth, past) = (fifo.place.depth, MAX_DEPTH + 1);
+    match random.below(7) {
         0 => {
-            fifo.depth = random.pick(&[0, 1, depth - 1, depth + 1, 17, past, past + 1, usize::MAX])
+            let depths = [0, 1, depth - 1, depth + 1, 17, past, past + 1, usize::MAX];
+            fifo.place.depth = random.pick(&depths);
         }
         1 => fifo.count = random.pick(&[depth + 1, past, usize::MAX, fifo.count]),
         2 => fifo.oldest = random.pick(&[depth, depth + 1, MAX_DEPTH, usize::MAX, depth - 1]),
+        3 => fifo.place.early_stall = !fifo.place.early_stall,
+        4 => *fifo = filled_fifo(random, fifo.place, fifo.oldest, depth),
+        5 => {
+            let (oldest, count) = (random.below(2), random.below(3));
+            *fifo = filled_fifo(random, Place::early_stall(2), oldest, count);
+        }
         _ => {
             let at = random.below(random.pick(&[depth, MAX_DEPTH]));
             fifo.slots[at].strb = random.pick(&[15, 16, 17, 255]);
@@ -81,17 +108,23 @@ pub fn damage_fifo(random: &Random, fifo: &mut Fifo) {
 }
 
 pub fn any_fifo(random: &Random) -> Fifo {
-    let mut fifo = well_fifo(random);
+    let mut fifo = well_fifo(random, legal_place(random));
     if random.once_in(4) {
         damage_fifo(random, &mut fifo);
     }
     fifo
 }
 
+/// Well-formed FIFOs, all of one kind or mixed.
+fn well_fifos(random: &Random) -> [Fifo; MAX_FIFOS] {
+    let places = legal_places(random, MAX_FIFOS);
+    std::array::from_fn(|i| well_fifo(random, places[i]))
+}
+
 /// A well-formed chain. FIFOs past its count are of any form.
 pub fn well_chain(random: &Random) -> Chain {
     let count = 1 + random.below(MAX_FIFOS);
-    let mut fifos = [(); MAX_FIFOS].map(|()| well_fifo(random));
+    let mut fifos = well_fifos(random);
     for fifo in &mut fifos[count..] {
         damage_fifo(random, fifo);
     }
@@ -106,11 +139,11 @@ pub fn any_chain(random: &Random) -> Chain {
             let past = MAX_FIFOS + 1;
             chain.count = random.pick(&[0, past, past + 1, usize::MAX, chain.count]);
             if random.coin() {
-                chain.fifos = [(); MAX_FIFOS].map(|()| well_fifo(random));
+                chain.fifos = well_fifos(random);
             }
         } else {
             let at = random.below(MAX_FIFOS.min(chain.count + 1));
-            chain.fifos[at] = well_fifo(random);
+            chain.fifos[at] = well_fifo(random, legal_place(random));
             damage_fifo(random, &mut chain.fifos[at]);
         }
     }

@@ -1,14 +1,18 @@
-//! "The stage and the line", with request T-09: a line of stages, by its value.
+//! "The stage and the line", with requests T-08 and T-09: a line of stages, by its value.
 
-use super::fifo::{legal_depth, refused, Shown, Stage, NOTHING};
+use super::fifo::{legal_place, refused, Shown, Stage, NOTHING};
 use super::MAX_CYCLES;
-use crate::answers::{Chain, Payload};
+use crate::answers::{Chain, Payload, Place};
 
 /// A line's value: its stages, the mouth's first.
-#[derive(Clone, PartialEq, Debug)]
+#[derive(Clone, PartialEq, Eq, Hash, Debug)]
 pub struct Line(pub Vec<Stage>);
 
 impl Line {
+    pub fn empty(places: &[Place]) -> Self {
+        Line(places.iter().map(|&place| Stage::empty(place)).collect())
+    }
+
     /// The value of a line as it is kept, unless its form is broken. Stages past its count are not looked at.
     pub fn of(chain: &Chain) -> Option<Self> {
         if !(1..=16).contains(&chain.count) {
@@ -41,15 +45,15 @@ impl Line {
     }
 }
 
-pub fn new_chain(depths: &[usize]) -> (u8, Line) {
-    let refusal = if !(1..=16).contains(&depths.len()) {
+pub fn new_chain(places: &[Place]) -> (u8, Line) {
+    let refusal = if !(1..=16).contains(&places.len()) {
         5
-    } else if !depths.iter().all(|&d| legal_depth(d)) {
+    } else if !places.iter().all(|&place| legal_place(place)) {
         4
     } else {
-        return (0, Line(depths.iter().map(|&d| Stage::empty(d)).collect()));
+        return (0, Line::empty(places));
     };
-    (refusal, Line(vec![Stage::empty(2)]))
+    (refusal, Line::empty(&[Place::plain(2)]))
 }
 
 /// A step of a line of any form: what it shows and the value afterwards; none where it is refused.

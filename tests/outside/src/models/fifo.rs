@@ -1,14 +1,14 @@
-//! "The stage and the line": one stage, by its value.
+//! "The stage and the line", with request T-08: one stage, by its value.
 
-use crate::answers::{Fifo, Payload};
+use crate::answers::{Fifo, Payload, Place};
 
 /// What is shown when valid is 0.
 pub const NOTHING: Payload = Payload { data: 0, strb: 0 };
 
-/// A stage's value: its depth, and what it holds, the oldest first.
-#[derive(Clone, PartialEq, Debug)]
+/// A stage's value: its place, and what it holds, the oldest first.
+#[derive(Clone, PartialEq, Eq, Hash, Debug)]
 pub struct Stage {
-    pub depth: usize,
+    pub place: Place,
     pub held: Vec<Payload>,
 }
 
@@ -31,14 +31,24 @@ pub fn refused(number: u8) -> Shown {
     }
 }
 
-pub fn legal_depth(depth: usize) -> bool {
-    depth % 2 == 0 && (2..=64).contains(&depth)
+/// The most that a stage holds at a place: its depth, or one less where it is early-stall.
+pub fn capacity(place: Place) -> usize {
+    if place.early_stall {
+        place.depth - 1
+    } else {
+        place.depth
+    }
+}
+
+pub fn legal_place(place: Place) -> bool {
+    let least = if place.early_stall { 4 } else { 2 };
+    place.depth % 2 == 0 && (least..=64).contains(&place.depth)
 }
 
 impl Stage {
-    pub fn empty(depth: usize) -> Self {
+    pub fn empty(place: Place) -> Self {
         Stage {
-            depth,
+            place,
             held: Vec::new(),
         }
     }
@@ -46,23 +56,22 @@ impl Stage {
     /// The value of a stage as it is kept, unless its form is broken.
     pub fn of(fifo: &Fifo) -> Option<Self> {
         let Fifo {
-            depth,
+            place,
             count,
             oldest,
             slots,
-        } = fifo;
-        if !legal_depth(*depth) || count > depth || oldest >= depth {
+        } = *fifo;
+        let depth = place.depth;
+        if !legal_place(place) || count > capacity(place) || oldest >= depth {
             return None;
         }
-        let held: Vec<Payload> = (0..*count).map(|i| slots[(oldest + i) % depth]).collect();
-        held.iter().all(|p| p.strb <= 15).then_some(Stage {
-            depth: *depth,
-            held,
-        })
+        let held: Vec<Payload> = (0..count).map(|i| slots[(oldest + i) % depth]).collect();
+        let legal = held.iter().all(|p| p.strb <= 15);
+        legal.then_some(Stage { place, held })
     }
 
     pub fn ready(&self) -> bool {
-        self.held.len() < self.depth
+        self.held.len() < capacity(self.place)
     }
 
     pub fn shown(&self) -> Option<Payload> {
@@ -83,22 +92,23 @@ impl Stage {
 /// stays is moved.
 pub fn kept_after(fifo: &Fifo, offer: Option<Payload>, sink: bool) -> Fifo {
     let mut next = *fifo;
+    let depth = fifo.place.depth;
     if sink && fifo.count > 0 {
-        next.oldest = (fifo.oldest + 1) % fifo.depth;
+        next.oldest = (fifo.oldest + 1) % depth;
         next.count -= 1;
     }
-    if let Some(payload) = offer.filter(|_| fifo.count < fifo.depth) {
-        next.slots[(next.oldest + next.count) % fifo.depth] = payload;
+    if let Some(payload) = offer.filter(|_| fifo.count < capacity(fifo.place)) {
+        next.slots[(next.oldest + next.count) % depth] = payload;
         next.count += 1;
     }
     next
 }
 
-pub fn new_fifo(depth: usize) -> (u8, Stage) {
-    if legal_depth(depth) {
-        (0, Stage::empty(depth))
+pub fn new_fifo(place: Place) -> (u8, Stage) {
+    if legal_place(place) {
+        (0, Stage::empty(place))
     } else {
-        (4, Stage::empty(2))
+        (4, Stage::empty(Place::plain(2)))
     }
 }
 
@@ -117,7 +127,7 @@ pub fn step(
         return (refused(2), None);
     }
     if clear {
-        return (refused(0), Some(Stage::empty(stage.depth)));
+        return (refused(0), Some(Stage::empty(stage.place)));
     }
     let shown = Shown {
         refusal: 0,

@@ -3,6 +3,7 @@
 mod addressgen;
 mod bench_text;
 mod chain;
+mod delay;
 mod fields;
 mod fifo;
 mod memory;

@@ -2,10 +2,11 @@
 
 use crate::{addressgen, bench_text, chain, fifo, memory, monitor, mux, stream, strobes};
 use outside::answers::{
-    Chain, ChainRun, Fifo, Monitor, Payload, StreamAnswer, BROKEN, CLEAN, MAX_DEPTH, MAX_FIFOS,
+    Chain, ChainRun, Fifo, Monitor, Payload, Place, StreamAnswer, BROKEN, CLEAN, MAX_DEPTH,
+    MAX_FIFOS,
 };
-use outside::models::chain::Offered;
-use outside::models::fifo::{legal_depth, NOTHING};
+use outside::models::chain::{Line, Offered};
+use outside::models::fifo::{legal_place, Stage, NOTHING};
 use outside::models::stream::{check_stream_by, Reading, RULES};
 use outside::random::{differ, Random};
 use outside::{linked, models, states};
@@ -170,7 +171,7 @@ fn held_payloads_shifted() {
         fifo::compare_places(random, |fifo, valid, payload, sink, clear| {
             let mut stepped = linked::fifo_step(fifo, valid, payload, sink, clear);
             let next = &mut stepped.next;
-            next.slots[..next.depth].rotate_left(next.oldest);
+            next.slots[..next.place.depth].rotate_left(next.oldest);
             next.oldest = 0;
             stepped
         })
@@ -179,6 +180,43 @@ fn held_payloads_shifted() {
 
 /// Moves a payload of the FIFO that is handed back, by the one that was given.
 type Misplaced = fn(&Fifo, &mut Fifo);
+
+/// A step and a run that misplace a payload in the FIFOs of these places are told apart.
+fn misplaced_differs(places: fn(Place) -> bool, misplace: Misplaced) {
+    let step = |fifo: Fifo, valid, payload, sink, clear| {
+        let mut stepped = linked::fifo_step(fifo, valid, payload, sink, clear);
+        if places(fifo.place) && stepped.refusal == 0 {
+            misplace(&fifo, &mut stepped.next);
+        }
+        stepped
+    };
+    differs(|random| fifo::compare(random, step));
+    differs(|random| fifo::compare_places(random, step));
+    let misplace_all = |given: &Chain, next: &mut Chain| {
+        for (fifo, given) in next.fifos.iter_mut().zip(&given.fifos) {
+            if places(given.place) {
+                misplace(given, fifo);
+            }
+        }
+    };
+    differs(|random| {
+        let kept = states::well_chain(random);
+        chain::compare_step(random, kept, |chain, valid, payload, sink, clear| {
+            let mut stepped = linked::chain_step(chain, valid, payload, sink, clear);
+            if stepped.refusal == 0 {
+                misplace_all(&chain, &mut stepped.next);
+            }
+            stepped
+        })
+    });
+    run_differs(|chain, offered, out_control, out_data| {
+        let mut ran = linked::chain_run(chain, offered, out_control, out_data);
+        if ran.refusal == 0 {
+            misplace_all(&chain, &mut ran.next);
+        }
+        ran
+    });
+}
 
 #[test]
 fn a_ring_of_64_that_wraps_at_16() {
@@ -199,79 +237,108 @@ fn a_ring_of_64_that_wraps_at_16() {
         },
     ];
     for misplace in wrong {
-        let step = |fifo: Fifo, valid, payload, sink, clear| {
-            let mut stepped = linked::fifo_step(fifo, valid, payload, sink, clear);
-            if fifo.depth == MAX_DEPTH && stepped.refusal == 0 {
-                misplace(&fifo, &mut stepped.next);
-            }
-            stepped
-        };
-        differs(|random| fifo::compare(random, step));
-        differs(|random| fifo::compare_places(random, step));
-        let misplace_all = |given: &Chain, next: &mut Chain| {
-            for (fifo, given) in next.fifos.iter_mut().zip(&given.fifos) {
-                if given.depth == MAX_DEPTH {
-                    misplace(given, fifo);
-                }
-            }
-        };
-        differs(|random| {
-            let kept = states::well_chain(random);
-            chain::compare_step(random, kept, |chain, valid, payload, sink, clear| {
-                let mut stepped = linked::chain_step(chain, valid, payload, sink, clear);
-                if stepped.refusal == 0 {
-                    misplace_all(&chain, &mut stepped.next);
-                }
-                stepped
-            })
-        });
-        run_differs(|chain, offered, out_control, out_data| {
-            let mut ran = linked::chain_run(chain, offered, out_control, out_data);
-            if ran.refusal == 0 {
-                misplace_all(&chain, &mut ran.next);
-            }
-            ran
-        });
-    }
-}
-
-/// The depths that a wrong program accepts.
-const OTHER_DEPTHS: [fn(usize) -> bool; 5] = [
-    |depth| legal_depth(depth) && depth <= 16,
-    |depth| legal_depth(depth) && depth <= 62,
-    |depth| legal_depth(depth) || depth == 66,
-    |depth| legal_depth(depth) || depth == 65,
-    |depth| legal_depth(depth) || depth == 17,
-];
-
-/// A depth that the right calls accept where a program accepts this one, and refuse where it does not.
-fn passed_depth(accepts: fn(usize) -> bool, depth: usize) -> usize {
-    match accepts(depth) {
-        true if legal_depth(depth) => depth,
-        true => MAX_DEPTH,
-        false => 0,
+        misplaced_differs(|place| place.depth == MAX_DEPTH, misplace);
     }
 }
 
 #[test]
-fn other_depths_of_new_ones() {
-    for accepts in OTHER_DEPTHS {
+fn an_early_stall_ring_that_wraps_at_its_capacity() {
+    misplaced_differs(
+        |place| place.early_stall,
+        |given, next| {
+            if next.oldest != given.oldest && next.oldest == given.place.depth - 1 {
+                next.oldest = 0;
+            }
+        },
+    );
+}
+
+/// The places that a wrong program accepts.
+const OTHER_PLACES: [fn(Place) -> bool; 10] = [
+    |place| legal_place(place) && place.depth <= 16,
+    |place| legal_place(place) && place.depth <= 62,
+    |place| legal_place(place) || place.depth == 66,
+    |place| legal_place(place) || place.depth == 65,
+    |place| legal_place(place) || place.depth == 17,
+    |place| legal_place(place) || place == Place::early_stall(2),
+    |place| legal_place(place) && place != Place::early_stall(4),
+    |place| legal_place(place) && place != Place::early_stall(64),
+    |place| legal_place(place) && place != Place::plain(2),
+    |place| legal_place(place) && !place.early_stall,
+];
+
+/// A place that the right calls accept where a program accepts this one, and refuse where it does not.
+fn passed_place(accepts: fn(Place) -> bool, place: Place) -> Place {
+    match accepts(place) {
+        true if legal_place(place) => place,
+        true if place.depth == 2 => Place::plain(2),
+        true => Place::plain(MAX_DEPTH),
+        false => Place::plain(0),
+    }
+}
+
+#[test]
+fn other_places_of_new_ones() {
+    for accepts in OTHER_PLACES {
         differs(|random| {
-            fifo::compare_new(random, |depth| {
-                let mut made = linked::fifo_new(passed_depth(accepts, depth));
+            fifo::compare_new(random, |place| {
+                let mut made = linked::fifo_new(passed_place(accepts, place));
                 if made.refusal == 0 {
-                    made.kept.depth = depth;
+                    made.kept.place = place;
                 }
                 made
             })
         });
         differs(|random| {
-            chain::compare_new(random, |depths| {
-                let passed = depths.iter().map(|&depth| passed_depth(accepts, depth));
+            chain::compare_new(random, |places| {
+                let passed = places.iter().map(|&place| passed_place(accepts, place));
                 let mut made = linked::chain_new(&passed.collect::<Vec<_>>());
                 if made.refusal == 0 {
-                    let fifos = made.kept.fifos.iter_mut().zip(depths);
-                    fifos.for_each(|(fifo, &depth)| fifo.depth = depth);
+                    let fifos = made.kept.fifos.iter_mut().zip(places);
+                    fifos.for_each(|(fifo, &place)| fifo.place = place);
+                }
+                made
+            })
+        });
+    }
+}
+
+#[test]
+fn a_refused_new_one_that_is_early_stall() {
+    // Of depth 2, and of the smallest legal depth.
+    for place in [Place::early_stall(2), Place::early_stall(4)] {
+        differs(|random| {
+            fifo::compare_new(random, |asked| {
+                let mut made = linked::fifo_new(asked);
+                if made.refusal != 0 {
+                    made.kept.place = place;
+                }
+                made
+            })
+        });
+        differs(|random| {
+            chain::compare_new(random, |places| {
+                let mut made = linked::chain_new(places);
+                if made.refusal != 0 {
+                    made.kept.fifos[0].place = place;
+                }
+                made
+            })
+        });
+    }
+}
+
+#[test]
+fn a_new_chain_of_one_kind() {
+    // All plain, and all as the mouth is.
+    let wrong: [fn(&[Place]) -> bool; 2] = [|_| false, |places| places[0].early_stall];
+    for kind in wrong {
+        differs(|random| {
+            chain::compare_new(random, |places| {
+                let mut made = linked::chain_new(places);
+                if made.refusal == 0 {
+                    let fifos = made.kept.fifos.iter_mut();
+                    fifos.for_each(|fifo| fifo.place.early_stall = kind(places));
                 }
                 made
             })
@@ -309,32 +376,171 @@ fn form_differs(seen: impl Fn(&mut Chain), back: impl Fn(&Chain, &mut Chain)) {
     });
 }
 
+/// Steps and runs that test FIFOs as `seen` makes their place are told apart.
+fn place_differs(seen: impl Fn(&Fifo) -> Place) {
+    differs(|random| {
+        fifo::compare_is_well(random, |mut fifo| {
+            fifo.place = seen(&fifo);
+            linked::fifo_is_well(fifo)
+        })
+    });
+    differs(|random| {
+        fifo::compare(random, |mut fifo, valid, payload, sink, clear| {
+            let place = fifo.place;
+            fifo.place = seen(&fifo);
+            let mut stepped = linked::fifo_step(fifo, valid, payload, sink, clear);
+            stepped.next.place = place;
+            stepped
+        })
+    });
+    form_differs(
+        |chain| {
+            let fifos = chain.fifos.iter_mut();
+            fifos.for_each(|fifo| fifo.place = seen(fifo));
+        },
+        places_back,
+    );
+}
+
+/// Gives the FIFOs of a chain that is handed back the places of those that were given.
+fn places_back(given: &Chain, next: &mut Chain) {
+    let fifos = next.fifos.iter_mut().zip(&given.fifos);
+    fifos.for_each(|(fifo, given)| fifo.place = given.place);
+}
+
 #[test]
-fn other_depths_handed_in() {
-    for accepts in OTHER_DEPTHS {
-        let seen = |fifo: &mut Fifo| fifo.depth = passed_depth(accepts, fifo.depth);
+fn other_places_handed_in() {
+    for accepts in OTHER_PLACES {
+        place_differs(|fifo| passed_place(accepts, fifo.place));
+    }
+}
+
+#[test]
+fn held_counted_against_the_depth() {
+    place_differs(|fifo| {
+        let Fifo { place, count, .. } = *fifo;
+        if legal_place(place) && count == place.depth {
+            Place::plain(place.depth)
+        } else {
+            place
+        }
+    });
+}
+
+#[test]
+fn a_position_bounded_by_the_capacity() {
+    place_differs(|fifo| {
+        let Fifo { place, oldest, .. } = *fifo;
+        if place.early_stall && oldest.checked_add(1) == Some(place.depth) {
+            Place::plain(0)
+        } else {
+            place
+        }
+    });
+}
+
+/// Steps and runs whose cycles take the FIFOs of a well-formed chain as of these places are told apart.
+fn capacity_differs(taken: fn(&Fifo) -> Place) {
+    let step = |fifo: Fifo, valid, payload, sink, clear| {
+        let mut other = fifo;
+        if Stage::of(&fifo).is_some() {
+            other.place = taken(&fifo);
+        }
+        let mut stepped = linked::fifo_step(other, valid, payload, sink, clear);
+        stepped.next.place = fifo.place;
+        stepped
+    };
+    differs(|random| fifo::compare(random, step));
+    differs(|random| fifo::compare_places(random, step));
+    form_differs(
+        |chain| {
+            if Line::of(chain).is_some() {
+                let fifos = chain.fifos[..chain.count].iter_mut();
+                fifos.for_each(|fifo| fifo.place = taken(fifo));
+            }
+        },
+        places_back,
+    );
+}
+
+#[test]
+fn early_stall_ready_with_one_less_than_its_depth() {
+    capacity_differs(|fifo| Place::plain(fifo.place.depth));
+}
+
+#[test]
+fn plain_ready_only_below_one_less_than_its_depth() {
+    // Where an early-stall one is legal that holds as many.
+    capacity_differs(|fifo| {
+        let Fifo { place, count, .. } = *fifo;
+        if place.depth > 2 && count < place.depth {
+            Place::early_stall(place.depth)
+        } else {
+            place
+        }
+    });
+}
+
+/// Changes the kinds of a chain's FIFOs.
+type Kinds = fn(&mut Chain);
+
+/// All plain, and all as the mouth is.
+const LOST: [Kinds; 2] = [
+    |chain| {
+        let fifos = chain.fifos.iter_mut();
+        fifos.for_each(|fifo| fifo.place.early_stall = false);
+    },
+    |chain| {
+        let early_stall = chain.fifos[0].place.early_stall;
+        let fifos = chain.fifos.iter_mut();
+        fifos.for_each(|fifo| fifo.place.early_stall = early_stall);
+    },
+];
+
+#[test]
+fn the_kind_lost_in_a_step() {
+    // In one with no clear, and in a clear.
+    for lost in [false, true] {
         differs(|random| {
-            fifo::compare_is_well(random, |mut fifo| {
-                seen(&mut fifo);
-                linked::fifo_is_well(fifo)
-            })
-        });
-        differs(|random| {
-            fifo::compare(random, |mut fifo, valid, payload, sink, clear| {
-                let depth = fifo.depth;
-                seen(&mut fifo);
+            fifo::compare(random, |fifo, valid, payload, sink, clear| {
                 let mut stepped = linked::fifo_step(fifo, valid, payload, sink, clear);
-                stepped.next.depth = depth;
+                if stepped.refusal == 0 && clear == lost {
+                    stepped.next.place.early_stall = false;
+                }
                 stepped
             })
         });
-        form_differs(
-            |chain| chain.fifos.iter_mut().for_each(seen),
-            |chain, next| {
-                let fifos = next.fifos.iter_mut().zip(&chain.fifos);
-                fifos.for_each(|(fifo, given)| fifo.depth = given.depth);
-            },
-        );
+        for lose in LOST {
+            differs(|random| {
+                let kept = states::well_chain(random);
+                chain::compare_step(random, kept, |chain, valid, payload, sink, clear| {
+                    let mut stepped = linked::chain_step(chain, valid, payload, sink, clear);
+                    if stepped.refusal == 0 && clear == lost {
+                        lose(&mut stepped.next);
+                    }
+                    stepped
+                })
+            });
+        }
+    }
+}
+
+#[test]
+fn the_kind_lost_in_a_run() {
+    for lose in LOST {
+        // At its end, and in its clears.
+        run_differs(|chain, offered, out_control, out_data| {
+            let mut ran = linked::chain_run(chain, offered, out_control, out_data);
+            if ran.refusal == 0 {
+                lose(&mut ran.next);
+            }
+            ran
+        });
+        clear_differs(|chain, control, data, sink| {
+            let (mut next, shown, word) = cycle(chain, control, data, sink);
+            lose(&mut next);
+            (next, shown, word)
+        });
     }
 }
 
@@ -349,10 +555,10 @@ fn other_longest_chains() {
             }
         };
         differs(|random| {
-            chain::compare_new(random, |depths| {
-                let mut made = linked::chain_new(&depths[..passed(depths.len())]);
+            chain::compare_new(random, |places| {
+                let mut made = linked::chain_new(&places[..passed(places.len())]);
                 if made.refusal == 0 {
-                    made.kept.count = depths.len();
+                    made.kept.count = places.len();
                 }
                 made
             })
@@ -365,13 +571,13 @@ fn other_longest_chains() {
 }
 
 #[test]
-fn depths_tried_before_their_count() {
+fn places_tried_before_their_count() {
     // All of them, and the first sixteen.
     for tried in [usize::MAX, MAX_FIFOS] {
         differs(|random| {
-            chain::compare_new(random, |depths| {
-                let mut made = linked::chain_new(depths);
-                if !depths.iter().take(tried).all(|&depth| legal_depth(depth)) {
+            chain::compare_new(random, |places| {
+                let mut made = linked::chain_new(places);
+                if !places.iter().take(tried).all(|&place| legal_place(place)) {
                     made.refusal = 4;
                 }
                 made

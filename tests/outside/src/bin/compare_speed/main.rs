@@ -20,12 +20,21 @@ const REPETITIONS: usize = 41;
 /// So many random traces are judged in turn.
 const TRACES: usize = 16;
 
-/// The chains that are timed, by the depths of their FIFOs.
-const LINES: [(&str, &[usize]); 3] = [
-    ("one FIFO of depth 2", &[2]),
-    ("eight FIFOs of depth 16", &[16; 8]),
-    ("sixteen FIFOs of depth 64", &[64; 16]),
+/// A chain that is timed: its name, and the places of its FIFOs.
+type Timed = (&'static str, &'static [Place]);
+
+/// Plain ones.
+const LINES: [Timed; 3] = [
+    ("one FIFO of depth 2", &[Place::plain(2)]),
+    ("eight FIFOs of depth 16", &[Place::plain(16); 8]),
+    ("sixteen FIFOs of depth 64", &[Place::plain(64); 16]),
 ];
+
+/// One of both kinds.
+const MIXED: Timed = (
+    "eight of depth 16, plain and early-stall in turn",
+    [[Place::plain(16), Place::early_stall(16)]; 4].as_flattened(),
+);
 
 /// How long one of so many calls in a row takes.
 fn time(calls: u32, call: &mut dyn FnMut()) -> Duration {
@@ -243,8 +252,8 @@ fn proved_run(chain: Chain, offered: &Offered, control: &mut [u8], data: &mut [u
 }
 
 /// The medians of two runs, which give the same.
-fn runs(offered: Offered, depths: &[usize], one: Run, other: Run) -> (Duration, Duration) {
-    let new = linked::chain_new(depths).kept;
+fn runs(offered: Offered, places: &[Place], one: Run, other: Run) -> (Duration, Duration) {
+    let new = linked::chain_new(places).kept;
     let mut out = (vec![0; CYCLES], vec![0; CYCLES]);
     let mut other_out = out.clone();
     let end = one(new, &offered, &mut out.0, &mut out.1);
@@ -258,14 +267,14 @@ fn runs(offered: Offered, depths: &[usize], one: Run, other: Run) -> (Duration, 
     medians(|| timed(one, &mut out), || timed(other, &mut other_out))
 }
 
-fn chain(what: &str, offered: Offered, depths: &[usize], one: Run, other: Run) {
-    print(what, runs(offered, depths, one, other));
+fn chain(what: &str, offered: Offered, places: &[Place], one: Run, other: Run) {
+    print(what, runs(offered, places, one, other));
 }
 
 /// The proved run beside the same in plain Rust.
-fn chains(what: &str, offered: Offered, depths: &[usize]) {
+fn chains(what: &str, offered: Offered, places: &[Place]) {
     let plain = plain::run::<ByComparison>;
-    chain(what, offered, depths, proved_run, plain);
+    chain(what, offered, places, proved_run, plain);
 }
 
 /// An offer and a ready sink in every cycle.
@@ -281,9 +290,9 @@ fn steady_offers() -> Offered {
 fn growth(what: &str, offers: impl Fn() -> Offered) {
     let each = |time: Duration| time.as_nanos() as f64 / CYCLES as f64;
     for count in [1, 2, 4, 8, 16] {
-        let depths = vec![MAX_DEPTH; count];
+        let places = vec![Place::plain(MAX_DEPTH); count];
         let plain = plain::run::<ByComparison>;
-        let (proved, plain) = runs(offers(), &depths, proved_run, plain);
+        let (proved, plain) = runs(offers(), &places, proved_run, plain);
         let (proved, plain) = (each(proved), each(plain));
         let of_one = proved / count as f64;
         println!("{count:5}   {what:<25} {proved:8.1} {of_one:8.1} {plain:8.1}");
@@ -291,9 +300,9 @@ fn growth(what: &str, offers: impl Fn() -> Offered) {
 }
 
 /// Steps in a row by value, as many as a run has cycles, each given what the one before handed back.
-fn chain_steps(what: &str, random: &Random, depths: &[usize]) {
+fn chain_steps(what: &str, random: &Random, places: &[Place]) {
     let offered = drawn_offers(random, Clears::Never);
-    let new = linked::chain_new(depths).kept;
+    let new = linked::chain_new(places).kept;
     let all = |step: fn(Chain, bool, Payload, bool, bool) -> Stepped<Chain>| {
         let mut chain = black_box(new);
         for c in 0..CYCLES {
@@ -324,7 +333,7 @@ type Step = fn(Fifo, bool, Payload, bool, bool) -> Stepped<Fifo>;
 /// A step for each cycle, each given the FIFO that the one before handed back.
 fn fifo(what: &str, random: &Random, depth: usize, one: Step, other: Step) {
     let offered = drawn_offers(random, Clears::Never);
-    let new = linked::fifo_new(depth).kept;
+    let new = linked::fifo_new(Place::plain(depth)).kept;
     let stepped = |step: Step, fifo: Fifo, c: usize| {
         let payload = Payload {
             data: offered.data[c],
@@ -351,7 +360,7 @@ fn fifo(what: &str, random: &Random, depth: usize, one: Step, other: Step) {
 }
 
 /// What it saves to find a place in a ring by a comparison, in the proved calls and in plain Rust's own.
-fn places(random: &Random) {
+fn rings(random: &Random) {
     let steps: [(&str, Step); 2] = [
         ("proved", linked::fifo_step),
         ("plain", plain::step::<ByComparison>),
@@ -364,10 +373,10 @@ fn places(random: &Random) {
         ("proved", proved_run),
         ("plain", plain::run::<ByComparison>),
     ];
-    for ((line, depths), (side, run)) in LINES.map(|line| runs.map(|r| (line, r))).concat() {
+    for ((line, places), (side, run)) in LINES.map(|line| runs.map(|r| (line, r))).concat() {
         let what = format!("chain, {line}, {side}");
         let offered = drawn_offers(random, Clears::Never);
-        chain(&what, offered, depths, run, plain::run::<ByRemainder>);
+        chain(&what, offered, places, run, plain::run::<ByRemainder>);
     }
 }
 
@@ -409,19 +418,22 @@ fn main() {
     let random = Random::new(1);
     streams(&random);
     cleared_streams();
-    for (line, depths) in LINES {
+    for (line, places) in LINES {
         let what = format!("chain, {line}");
         let offered = drawn_offers(&random, Clears::Never);
-        chains(&what, offered, depths);
+        chains(&what, offered, places);
     }
-    for (line, depths) in LINES {
+    let (line, places) = MIXED;
+    let offered = drawn_offers(&Random::new(8), Clears::Never);
+    chains(&format!("chain, {line}"), offered, places);
+    for (line, places) in LINES {
         let what = format!("chain, {line}, one in sixteen clear");
         let offered = drawn_offers(&Random::new(16), Clears::Each(16));
-        chains(&what, offered, depths);
+        chains(&what, offered, places);
     }
-    for (line, depths) in LINES {
+    for (line, places) in LINES {
         let what = format!("chain step by step, {line}");
-        chain_steps(&what, &random, depths);
+        chain_steps(&what, &random, places);
     }
     addresses();
     records(record);
@@ -444,5 +456,5 @@ fn main() {
         "{:5}   {:<57} {:>8} {:>8}",
         "ratio", "", "compared", "divided"
     );
-    places(&random);
+    rings(&random);
 }

@@ -161,8 +161,16 @@ pub fn feed(m: &mut Monitor, control: &[u8], data: &[u32]) -> u8 {
     0
 }
 
+fn capacity(place: Place) -> usize {
+    if place.early_stall {
+        place.depth - 1
+    } else {
+        place.depth
+    }
+}
+
 fn ready(fifo: &Fifo) -> bool {
-    fifo.count < fifo.depth
+    fifo.count < capacity(fifo.place)
 }
 
 fn oldest(fifo: &Fifo) -> Option<Payload> {
@@ -210,22 +218,24 @@ impl Places for ByRemainder {
 
 fn cycle<P: Places>(fifo: &mut Fifo, offer: Option<Payload>, sink: bool) {
     let accepts = ready(fifo);
+    let depth = fifo.place.depth;
     if sink && fifo.count > 0 {
-        fifo.oldest = P::next(fifo.depth, fifo.oldest);
+        fifo.oldest = P::next(depth, fifo.oldest);
         fifo.count -= 1;
     }
     if let (Some(payload), true) = (offer, accepts) {
-        fifo.slots[P::end(fifo.depth, fifo.oldest, fifo.count)] = payload;
+        fifo.slots[P::end(depth, fifo.oldest, fifo.count)] = payload;
         fifo.count += 1;
     }
 }
 
 fn is_well<P: Places>(fifo: &Fifo) -> bool {
-    let depth = fifo.depth;
-    if depth < 2 || depth > MAX_DEPTH || depth & 1 == 1 {
+    let Place { depth, early_stall } = fifo.place;
+    let least = if early_stall { 4 } else { 2 };
+    if depth < least || depth > MAX_DEPTH || depth & 1 == 1 {
         return false;
     }
-    if fifo.oldest >= depth || fifo.count > depth {
+    if fifo.oldest >= depth || fifo.count > capacity(fifo.place) {
         return false;
     }
     let mut at = fifo.oldest;
