@@ -80,7 +80,7 @@ module _ (n : ℕ) (ps : List Pointers) (words strbs : List ℕ) (sits : Sits n 
 
   -- the FIFO at a place is ready as the mouth of the row from there on
   pub row-ready : (j : ℕ) (d : Pointers) (others : List Queue) (sink : Bool) → j < n → drop j (rowIn n ps words strbs) ≡ map queue.well others
-      → fifo.readyIn (getD ps j d) (lent j words) (lent j strbs) ≡ mouth others sink
+      → fifo.readyIn (getD ps j d) ≡ mouth others sink
   row-ready j d others sink h e =
       let row = rowIn n ps words strbs in
       let inside : j < length row = omega (arith, row-length) in

@@ -15,7 +15,7 @@ use Rattle.signals.proofs.Bools.{both, clash}
 use Rattle.fifo.specs.declared.Place.{Place}
 use Rattle.fifo.specs.declared.Fifo.{Fifo}
 use Rattle.fifo.specs.Queue.{Queue, ill, well, readyOf, capacity, maxDepth, legalPlace, empty, ready, rest, isAny, oldest, shown, shownAs, when, next}
-use Rattle.fifo.specs.Ring.{ring, wrapped, queueOf, inRange, trusted, EveryPlace}
+use Rattle.fifo.specs.Ring.{ring, wrapped, pointersOf, readyIn, queueOf, inRange, trusted, EveryPlace}
 use Rattle.fifo.proofs.Depths.{depth-most, capacity-least, capacity-most}
 use Rattle.fifo.proofs.Places.{place-is-remainder, wrapped-below}
 use Rattle.fifo.proofs.Slots.{ring-length, ring-oldest, ring-at, store-joins-end}
@@ -84,7 +84,7 @@ pub count-held : (f : Fifo) → length (queueOf f .held) ≡ f .count
 count-held f = ring-length (f .slots) (f .place .depth) (f .oldest) (f .count)
 
 -- ready is a comparison of the numbers
-pub ready-count : (f : Fifo) → ready (queueOf f) ≡ ltb (f .count) (capacity (f .place))
+pub ready-count : (f : Fifo) → ready (queueOf f) ≡ readyIn (pointersOf f)
 ready-count f = rw (count-held f)
 
 -- and so is whether something is shown
@@ -113,7 +113,7 @@ ready-trusted f = by-test (inRange f) (queueOf f)
     by-test false q = refl
 
 -- a FIFO that stands for a queue by its numbers has them in range, and the queue is the one in its slots
-trusted-well : (f : Fifo) (q : Queue) → trusted f ≡ well q → (inRange f ≡ true) × (queueOf f ≡ q)
+pub trusted-well : (f : Fifo) (q : Queue) → trusted f ≡ well q → (inRange f ≡ true) × (queueOf f ≡ q)
 unfolding trusted
 trusted-well f q e = by-test (inRange f) (queueOf f) e
   where

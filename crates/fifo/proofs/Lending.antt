@@ -4,7 +4,7 @@ use Prim.Native.Nat.{ℕ, _≤_}
 use native.Mathlib.Omega.{arith}
 use mathlib.Core.Bool.{Bool, true, false, cond}
 use mathlib.Core.List.{List}
-use mathlib.Core.Path.{_≡_, ap, _∙_}
+use mathlib.Core.Path.{_≡_, sym, ap, _∙_}
 use borrow.Author.Tests.{le-leb}
 use lib.ListN.{length}
 use Rattle.signals.specs.declared.Payload.{Payload}
@@ -13,11 +13,11 @@ use Rattle.signals.proofs.Bools.{clash}
 use Rattle.fifo.specs.declared.Fifo.{Fifo}
 use Rattle.fifo.specs.declared.Pointers.{Pointers}
 use Rattle.fifo.specs.declared.SteppedIn.{SteppedIn}
-use Rattle.fifo.specs.Queue.{Queue, ill, well, readyOf, ready, maxDepth}
-use Rattle.fifo.specs.Ring.{value, trusted, strobesChecked}
-use Rattle.fifo.specs.Memory.{fifoIn, hasSlots, trustedIn, valueIn, readyIn}
+use Rattle.fifo.specs.Queue.{Queue, ill, well, ready, maxDepth}
+use Rattle.fifo.specs.Ring.{readyIn, value, trusted, strobesChecked}
+use Rattle.fifo.specs.Memory.{fifoIn, hasSlots, trustedIn, valueIn}
 use Rattle.fifo.specs.Promises.{LaysIn, StepsIn, answeredIn}
-use Rattle.fifo.proofs.Form.{depth-within, trusted-range}
+use Rattle.fifo.proofs.Form.{ready-count, trusted-well, depth-within, trusted-range}
 use Rattle.fifo.proofs.Strobes.{checked-well, trusted-of-value}
 use Rattle.fifo.proofs.Stepping.{Served, answer-serves}
 
@@ -31,9 +31,11 @@ trusted-of-memory p words strbs q e = by-test (hasSlots (p .place .depth) words 
     by-test false e = absurd (clash cc)
 
 -- what is ready by the numbers is what is ready
-pub ready-in : (p : Pointers) (words strbs : List ℕ) (q : Queue) → valueIn p words strbs ≡ well q → readyIn p words strbs ≡ ready q
+pub ready-in : (p : Pointers) (words strbs : List ℕ) (q : Queue) → valueIn p words strbs ≡ well q → readyIn p ≡ ready q
 unfolding valueIn
-ready-in p words strbs q e = ap readyOf (trusted-of-memory p words strbs q (checked-well (trustedIn p words strbs) q e .0))
+ready-in p words strbs q e =
+    sym (ready-count (fifoIn p words strbs))
+    ∙ ap ready (trusted-well (fifoIn p words strbs) q (trusted-of-memory p words strbs q (checked-well (trustedIn p words strbs) q e .0)) .1)
 
 -- a step with a legal payload
 pub serves : (p : Pointers) (words strbs : List ℕ) (q : Queue) (offers : Bool) (offer : Payload) (behind clear : Bool) (r : SteppedIn)

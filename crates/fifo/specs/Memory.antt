@@ -8,7 +8,7 @@ use lib.Dec.{leb}
 use Rattle.signals.specs.declared.Payload.{Payload}
 use Rattle.fifo.specs.declared.Fifo.{Fifo}
 use Rattle.fifo.specs.declared.Pointers.{Pointers}
-use Rattle.fifo.specs.Queue.{Value, ill, readyOf}
+use Rattle.fifo.specs.Queue.{Value, ill}
 use Rattle.fifo.specs.Ring.{fifoWith, trusted, strobesChecked}
 
 -- slot i is word i with strobe i
@@ -30,7 +30,3 @@ trustedIn p words strbs = cond (hasSlots (p .place .depth) words strbs) (trusted
 
 unfoldable pub valueIn : Pointers → (words strbs : List ℕ) → Value
 valueIn p words strbs = strobesChecked (trustedIn p words strbs)
-
--- ready to the source, which goes by the numbers
-abbrev pub readyIn : Pointers → (words strbs : List ℕ) → Bool
-readyIn p words strbs = readyOf (trusted (fifoIn p words strbs))

@@ -16,8 +16,8 @@ use Rattle.fifo.specs.declared.Pointers.{Pointers}
 use Rattle.fifo.specs.declared.SteppedIn.{SteppedIn}
 use Rattle.fifo.specs.Queue.{Value, ill, well, isWell, Answer, stepOf, newGrounds, newQueue}
 use Rattle.fifo.specs.Memory.{hasSlots}
-pub use Rattle.fifo.specs.Ring.{value, trusted}
-pub use Rattle.fifo.specs.Memory.{valueIn, trustedIn, readyIn}
+pub use Rattle.fifo.specs.Ring.{value, trusted, readyIn}
+pub use Rattle.fifo.specs.Memory.{valueIn, trustedIn}
 
 pub record Made (place : Place) (r : NewFifo) : Type 0 where
   pub refusal : refusalOf (r .outcome) ≡ firstOf (newGrounds place)

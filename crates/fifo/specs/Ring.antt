@@ -37,6 +37,10 @@ pointersOf f = record { place = f .place; count = f .count; oldest = f .oldest }
 abbrev pub fifoWith : Pointers → (slots : List Payload) → Fifo
 fifoWith p slots = record { place = p .place; count = p .count; oldest = p .oldest; slots = slots }
 
+-- ready to the source, by the numbers: fewer than the capacity are counted
+abbrev pub readyIn : Pointers → Bool
+readyIn p = ltb (p .count) (capacity (p .place))
+
 -- the queue in the slots, whether or not the numbers are in range
 abbrev pub queueOf : Fifo → Queue
 queueOf f = record { place = f .place; held = ring (f .slots) (f .place .depth) (f .oldest) (f .count) }

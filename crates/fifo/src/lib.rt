@@ -107,7 +107,7 @@ impl Fifo {
     pub fn is_ready(self) -> bool
         ensures { λ r. ⌜ r ≡ readyOf (trusted self) ⌝ }
     {
-        self.is_in_range() & self.pointers().has_room()
+        self.is_in_range() & self.pointers().is_ready()
     }
 
     // One cycle of a FIFO that has its form; the held strobes are looked at first.
@@ -146,7 +146,7 @@ impl Fifo {
         let pointers = self.pointers();
         let count = self.count;
         let oldest = self.oldest;
-        let ready = pointers.has_room();
+        let ready = pointers.is_ready();
         let mut slots = self.slots;
         every_slot(slots);
         let mut shown = Payload { data: 0, strb: 0 };

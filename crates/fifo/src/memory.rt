@@ -10,7 +10,7 @@ ghost use lib.ListN.{length, take, drop};
 ghost use Rattle.signals.specs.Payloads.{zeros};
 ghost use Rattle.fifo.specs.Queue.{maxDepth, when, emptied, cleared, cycled};
 ghost use Rattle.fifo.specs.Ring.{fifoWith, queueOf, inRange, trusted};
-ghost use Rattle.fifo.specs.Memory.{slotsIn, fifoIn, hasSlots, trustedIn, readyIn};
+ghost use Rattle.fifo.specs.Memory.{slotsIn, fifoIn, hasSlots, trustedIn};
 ghost use Rattle.fifo.specs.Promises.{LaysIn, StaysPast, StepsIn, answeredIn};
 use super::Fifo;
 use super::MAX_DEPTH;
@@ -115,13 +115,6 @@ impl Pointers {
         }
     }
 
-    // Whether a FIFO whose held strobes are trusted is ready to its source.
-    pub fn is_ready(self) -> bool
-        ensures { λ r. ⌜ ((words strbs : List ℕ) → r ≡ readyIn self words strbs) ⌝ }
-    {
-        self.is_in_range() & self.has_room()
-    }
-
     // One cycle of a FIFO in lent memory, whose held strobes are trusted: what is tested of its form takes constant time.
     pub fn step(
         self,
@@ -165,7 +158,7 @@ impl Pointers {
         }
         let count = self.count;
         let oldest = self.oldest;
-        let ready = self.has_room();
+        let ready = self.is_ready();
         let mut shown = Payload { data: 0, strb: 0 };
         if 0 < count {
             shown = Payload {

@@ -6,8 +6,8 @@ ghost use mathlib.Core.Bool.{true, false, cond};
 ghost use mathlib.Core.List.{List, []};
 ghost use lib.ListN.{length};
 ghost use Rattle.signals.specs.declared.Payload.{Payload};
-ghost use Rattle.fifo.specs.Queue.{maxDepth, legalPlace, legalStrbs, well, empty, emptied, ready, rest};
-ghost use Rattle.fifo.specs.Ring.{wrapped, pointersOf, fifoWith, trusted, queueOf, inRange};
+ghost use Rattle.fifo.specs.Queue.{maxDepth, legalPlace, legalStrbs, well, empty, emptied, rest};
+ghost use Rattle.fifo.specs.Ring.{readyIn, wrapped, pointersOf, fifoWith, trusted, queueOf, inRange};
 use super::Fifo;
 use super::MAX_DEPTH;
 use super::Place;
@@ -101,9 +101,9 @@ impl Pointers {
         place.is_legal() & ((self.oldest < depth) & (self.count <= most))
     }
 
-    // Whether it holds fewer than the capacity.
-    pub(crate) fn has_room(self) -> bool
-        ensures { λ r. ⌜ ((slots : List Payload) → r ≡ ready (queueOf (fifoWith self slots))) ⌝ }
+    // Whether it is ready to its source: fewer than the capacity are held. The numbers are not tested for their range.
+    pub fn is_ready(self) -> bool
+        ensures { λ r. ⌜ r ≡ readyIn self ⌝ }
     {
         let place = self.place;
         self.count < place.capacity()

@@ -1,5 +1,5 @@
 -- `Chain::gathered` meets its contract. The invariant: the FIFOs before `j` are those in the memory (`Gathering`). Assumes nothing.
-use Prim.Native.Nat.{_-_, _≤_}
+use Prim.Native.Nat.{_-_, _≤_, _<_}
 use native.Mathlib.Omega.{arith}
 use mathlib.Core.Path.{_≡_, refl}
 use borrow.Author.Needs.{needs}
@@ -66,23 +66,33 @@ part-gathered-end-2 c = search needs
 gathered-requires : tie.Need-gathered-requires Inv-loop μ-loop
 gathered-requires c κs = search needs
 
+-- a turn's begin, where `j` is below the number of the longest chain
+abbrev turn : tie.After-gathered Inv-loop μ-loop → tie.In-loop Inv-loop μ-loop
+turn c = c .before .before .before .before
+
+below : (c : tie.In-loop Inv-loop μ-loop) → c .before .loop .j < maxFifos
+below c = omega (arith, c .loop-test .taken, c .before .loop .inv .1 .1 .1 .0)
+
 mul-f : tie.Need-mul-f Inv-loop μ-loop
-mul-f c = search needs
+mul-f c = omega (arith, below (turn c))
 
 element-set-from-f : tie.Need-element-set-from-f Inv-loop μ-loop
-element-set-from-f c = search needs
+element-set-from-f c = omega (arith, below (turn c), turn c .before .loop .inv .0 .all)
 
 add-j : tie.Need-add-j Inv-loop μ-loop
-add-j c = search needs
+add-j c = omega (arith, below (turn c))
 
 loop-less : tie.Need-loop-less Inv-loop μ-loop
-loop-less c = search needs
+loop-less c = omega (arith, turn c .loop-test .taken)
 
 loop-again : tie.Need-loop-again Inv-loop μ-loop
 loop-again c =
-    let l = c .before .before .before .before .before .loop in
-    let gathers = c .gathered .ensures in
-    (gathering-on _ _ _ _ (l .j) _ _ (l .inv .0) (omega arith) (omega arith) gathers, (l .inv .1 .0, (omega arith, l .inv .1 .1 .1)))
+    let t = turn c in
+    let l = t .before .loop in
+    let v = l .inv .1 in (
+      gathering-on _ _ _ _ (l .j) _ _ (l .inv .0) (omega (arith, below t, v .1 .1 .1)) (omega (arith, below t, l .inv .0 .all)) (c .gathered .ensures),
+      (v .0, (omega (arith, t .loop-test .taken), v .1 .1)),
+    )
 
 returns : tie.Need-returns Inv-loop μ-loop
 returns c =

@@ -1,6 +1,6 @@
 -- `Chain::laid_out` meets its contract. The invariant: the FIFOs before `j` lie in their parts of the memory (`Laying`).
 -- Assumes nothing.
-use Prim.Native.Nat.{_-_, _≤_}
+use Prim.Native.Nat.{_-_, _≤_, _<_}
 use native.Mathlib.Omega.{arith}
 use mathlib.Core.Path.{refl}
 use borrow.Author.Needs.{needs}
@@ -61,29 +61,40 @@ part-laid-in-end-2 c = search needs
 laid-in-requires : tie.Need-laid-in-requires Inv-loop μ-loop
 laid-in-requires c κs = search needs
 
+-- a turn's begin, where `j` is below the number of the longest chain
+abbrev turn : tie.After-slice-known4 Inv-loop μ-loop → tie.In-loop Inv-loop μ-loop
+turn c = c .before .before .before .before .before .before .before .before
+
+below : (c : tie.In-loop Inv-loop μ-loop) → c .before .loop .j < maxFifos
+below c = omega (arith, c .loop-test .taken, c .before .loop .inv .1 .1)
+
 mul-fifos : tie.Need-mul-fifos Inv-loop μ-loop
-mul-fifos c = search needs
+mul-fifos c = omega (arith, below (turn c))
 
 array-set-from-fifos : tie.Need-array-set-from-fifos Inv-loop μ-loop
-array-set-from-fifos c = search needs
+array-set-from-fifos c = below (turn c)
 
 add-j : tie.Need-add-j Inv-loop μ-loop
-add-j c = search needs
+add-j c = omega (arith, below (turn c))
 
 loop-less : tie.Need-loop-less Inv-loop μ-loop
-loop-less c = search needs
+loop-less c = omega (arith, turn c .loop-test .taken)
 
 loop-again : tie.Need-loop-again Inv-loop μ-loop
 loop-again c =
-    let l = c .before .before .before .before .before .before .before .before .before .loop in
-    let start = c .before .before .before .before .before .before .before .before .before .before .before .before .before in
+    let t = turn c in
+    let l = t .before .loop in
+    let start = t .before .before .before .before .before in
     let chain = start .args .t1 in
-    let is = used-well (chain .fifos) (chain .count) (l .j) _ _ (formed chain (start .pre .0) .row) (omega arith) (omega arith) in (
-      laying-on _ _ _ _ (l .j) _ (is .0) _ _ _ (l .inv .0) (omega arith) (omega arith) (is .1)
+    let inside = t .loop-test .taken in
+    let all = t .before .before .has-all .ensures in
+    let most = l .inv .1 .1 in
+    let is = used-well (chain .fifos) (chain .count) (l .j) _ _ (formed chain (start .pre .0) .row) inside (omega (arith, most, all)) in (
+      laying-on _ _ _ _ (l .j) _ (is .0) _ _ _ (l .inv .0) (omega (arith, below t, all)) (below t) (is .1)
           (c .before .before .before .words .given .0)
           (c .before .strbs .given .0)
           (c .before .before .before .before .laid-in .ensures),
-      (omega arith, l .inv .1 .1),
+      (omega (arith, inside), most),
     )
 
 same-length : tie.Need-same-length Inv-loop μ-loop

@@ -183,7 +183,7 @@ behind-it c others e =
     let v = w .inv .1 in
     let long = row-length n (w .fifos) (w .words) (w .strbs) (v .0) in
     ⊎-elim
-    (λ a. a .3 ∙ a .2 .ensures _ _
+    (λ a. a .3 ∙ a .2 .ensures
     ∙ row-ready n (w .fifos) (w .words) (w .strbs) (v .0) (w .j + 1) _ others _ (omega (arith, a .0 .taken, v .1 .1)) e)
     (λ a. a .1 ∙ mouth-sink (rowIn n (w .fifos) (w .words) (w .strbs)) (w .j + 1) others _ (omega (arith, a .0 .left, v .1 .1, long)) e)
     (c .if1 .came)

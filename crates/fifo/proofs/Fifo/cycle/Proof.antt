@@ -11,8 +11,8 @@ use lib.ListN.{length}
 use Rattle.fifo.specs.declared.Fifo.{Fifo}
 use Rattle.fifo.specs.declared.Pointers.{Pointers}
 use Rattle.fifo.specs.Queue.{well, ready, shown, shownAs, next, when, maxDepth}
-use Rattle.fifo.specs.Ring.{fifoWith, queueOf, inRange, trusted}
-use Rattle.fifo.proofs.Form.{depth-within, oldest-within, count-within, place-within, shows-count, shows-oldest, shows-zeros, popQueue, pop-in-range, push-makes-next, no-push}
+use Rattle.fifo.specs.Ring.{readyIn, fifoWith, queueOf, inRange, trusted}
+use Rattle.fifo.proofs.Form.{depth-within, oldest-within, count-within, place-within, ready-count, shows-count, shows-oldest, shows-zeros, popQueue, pop-in-range, push-makes-next, no-push}
 use Rattle.fifo.proofs.LentSlots.{in-range-any}
 use Rattle.fifo.proofs.Stepping.{parts-cycle}
 use Rattle.fifo.proofs.Fifo.cycle.Statement.{statement}
@@ -30,8 +30,8 @@ returns c = rw (c .before .before .if1 .taken, c .silent .ensures, c .before .em
 pointers-requires : tie.Need-pointers-requires
 pointers-requires c κs = search needs
 
-has-room-requires : tie.Need-has-room-requires
-has-room-requires c κs = search needs
+is-ready-requires : tie.Need-is-ready-requires
+is-ready-requires c κs = search needs
 
 every-slot-requires : tie.Need-every-slot-requires
 every-slot-requires c κs = search needs
@@ -48,8 +48,8 @@ same-fifo : (c : tie.After-every-slot) → fifoWith (pointers c) (start c .args 
 same-fifo c = ap (λ (p : Pointers). fifoWith p (start c .args .self .slots)) (c .before .before .before .pointers .ensures)
 
 -- ready is that of the list at the cycle's start
-room : (c : tie.After-every-slot) → c .before .before .has-room .result ≡ ready (queueOf (start c .args .self))
-room c = c .before .before .has-room .ensures (start c .args .self .slots) ∙ ap (λ (f : Fifo). ready (queueOf f)) (same-fifo c)
+room : (c : tie.After-every-slot) → c .before .before .is-ready .result ≡ ready (queueOf (start c .args .self))
+room c = c .before .before .is-ready .ensures ∙ ap readyIn (c .before .before .before .pointers .ensures) ∙ sym (ready-count (start c .args .self))
 
 mul-shown : tie.Need-mul-shown
 mul-shown c = let a = start (c .before) in omega (arith, oldest-within (a .args .self) (a .pre))
@@ -141,7 +141,7 @@ cycle-spec =
     silent-requires
     returns
     pointers-requires
-    has-room-requires
+    is-ready-requires
     every-slot-requires
     mul-shown
     array-copy-out-shown

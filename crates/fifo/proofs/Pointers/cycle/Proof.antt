@@ -16,7 +16,7 @@ use Rattle.fifo.specs.Queue.{well, ready, shown, shownAs, next, when, ma
 use Rattle.fifo.specs.Ring.{fifoWith, queueOf, inRange, trusted, wrapped}
 use Rattle.fifo.specs.Memory.{slotsIn, fifoIn, hasSlots, trustedIn}
 use Rattle.fifo.specs.Promises.{StaysPast}
-use Rattle.fifo.proofs.Form.{Form, form-of, depth-within, oldest-within, count-within, place-below, shows-count, shows-oldest, shows-zeros, popQueue, pop-in-range, pop-place, push-makes-next, no-push}
+use Rattle.fifo.proofs.Form.{Form, form-of, depth-within, oldest-within, count-within, place-below, ready-count, shows-count, shows-oldest, shows-zeros, popQueue, pop-in-range, pop-place, push-makes-next, no-push}
 use Rattle.fifo.proofs.LentSlots.{in-range-any, slots-length, slots-at, slots-set, slots-words, slots-strbs, slots-kept, trusted-memory, trusted-empty}
 use Rattle.fifo.proofs.Stepping.{parts-cycle}
 use Rattle.fifo.proofs.Pointers.cycle.Statement.{statement}
@@ -40,8 +40,8 @@ returns c =
       record { of-words = refl; of-strbs = refl },
     )
 
-has-room-requires : tie.Need-has-room-requires
-has-room-requires c κs = search needs
+is-ready-requires : tie.Need-is-ready-requires
+is-ready-requires c κs = search needs
 
 -- the position of the oldest is within the words and the strobes
 oldest-inside : (c : tie.Start) → (c .args .self .oldest < length (c .args .words .now)) × (c .args .self .oldest < length (c .args .strbs .now))
@@ -68,6 +68,10 @@ popped-requires c κs = let a = c .before .before .before .before .before in in-
 -- which it has left where the sink is ready
 abbrev start : tie.After-place → tie.Start
 start c = c .before .before .before .before .before .before .before
+
+-- ready is that of the list at the cycle's start
+room : (c : tie.After-place) → c .before .before .before .is-ready .result ≡ ready (queueOf (given (start c)))
+room c = c .before .before .before .is-ready .ensures ∙ sym (ready-count (given (start c)))
 
 abbrev popped : tie.After-place → Fifo
 popped c = fifoIn (c .before .popped .result) (start c .args .words .now) (start c .args .strbs .now)
@@ -149,7 +153,7 @@ gives c =
     let a = start d .args in
     let q = queueOf (given (start d)) in
     let left : Pointers = record { place = popped d .place; count = c .if3 .held; oldest = popped d .oldest } in
-    let room = sym (ap (λ (b : Bool). a .valid && b) (d .before .before .before .has-room .ensures (slotsIn (a .words .now) (a .strbs .now)))) in
+    let joins = sym (ap (λ (b : Bool). a .valid && b) (room d)) in
     let slots : hasSlots (popped d .place .depth) (c .if3 .words) (c .if3 .strbs) ≡ true =
     slots-kept (popped d .place .depth) (a .words .now) (a .strbs .now) (c .if3 .words) (c .if3 .strbs) (ap (λ (n : ℕ). hasSlots n (a .words .now) (a .strbs .now)) (same-depth d) ∙ start d .pre .1) (words-length c) (strbs-length c)
     in
@@ -159,8 +163,8 @@ gives c =
     rw (w .2, w .3, w .4, slots-set (a .words .now) (a .strbs .now) (w .1 .result) (a .payload .«data») (a .payload .strb), w .1 .ensures)
     (push-makes-next (given (start d)) (popped d) (a .sink) (pops d) (a .valid) (a .payload)
     (slots-length (a .words .now) (a .strbs .now) (popped d .place .depth) (room-words d) (room-strbs d))
-    (room ∙ w .0 .taken)))
-    (λ w. rw (w .1, w .2, w .3) (no-push (given (start d)) (popped d) (a .sink) (pops d) (a .valid) (a .payload) (room ∙ w .0 .left)))
+    (joins ∙ w .0 .taken)))
+    (λ w. rw (w .1, w .2, w .3) (no-push (given (start d)) (popped d) (a .sink) (pops d) (a .valid) (a .payload) (joins ∙ w .0 .left)))
     (c .if3 .came)
 
 -- memory past the ring stays
@@ -184,7 +188,7 @@ returns-2 c =
     let a = start d .args in (
       rw (d .before .before .before .before .if1 .left)
           (parts-cycle (queueOf (given (start d))) (when (a .valid) (a .payload ∷ [])) (a .sink) _ _ _ _
-          (d .before .before .before .has-room .ensures (slotsIn (a .words .now) (a .strbs .now)))
+          (room d)
           (sym (shows-count (given (start d))))
           (shows (d .before .before))
           (gives c)),
@@ -198,7 +202,7 @@ cycle-spec =
     emptied-requires
     silent-requires
     returns
-    has-room-requires
+    is-ready-requires
     mul-t20
     slice-read-t22
     slice-read-t24
