@@ -1,5 +1,5 @@
--- Document 01, "The stage and the line" and "Refusal numbers", with requests T-08 and T-09: the calls on a line, why each is refused, and what
--- each answers. Assumes nothing.
+-- Document 01, "The stage and the line" and "Refusal numbers", with requests T-08 and T-09: the calls on a line, why each is refused,
+-- and what each answers. Assumes nothing.
 use Prim.Native.Nat.{ℕ, _+_, _*_}
 use mathlib.Core.Bool.{Bool, true, false, cond, not, _&&_, _||_}
 use mathlib.Core.List.{List, [], _∷_, _++_, map}

@@ -1,6 +1,6 @@
--- Demand 3 of document 01, with requests T-08 and T-09: between clears a line of FIFOs loses, invents, reorders and overdelays nothing, and a clear
--- drops exactly what is held. One claim about a whole list of steps and runs on one chain; it is proved in `proofs/Demand3.antt`.
--- Assumes nothing.
+-- Demand 3 of document 01, with requests T-08 and T-09: between clears a line of FIFOs, of either kind in any mix, loses, invents,
+-- reorders and overdelays nothing, and a clear drops exactly what is held. One claim about a whole list of steps and runs on one chain;
+-- it is proved in `proofs/Demand3.antt`. Assumes nothing.
 use Prim.Native.Nat.{ℕ, _+_, _≤_}
 use mathlib.Core.Bool.{true, false, cond, _&&_}
 use mathlib.Core.List.{List, [], _∷_, _++_, map}

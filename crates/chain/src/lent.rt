@@ -23,7 +23,7 @@ impl Places {
         }
     }
 
-    // Place i is this one.
+    // These places, with another at i.
     fn with(mut self, i: usize, place: Place) -> Places
         requires { ⌜ i < maxFifos ⌝ }
         ensures { λ r. ⌜ r ≡ placed self i place ⌝ }
@@ -32,7 +32,7 @@ impl Places {
         self
     }
 
-    // Reads a lent list whose number of places is not refused.
+    // The places of a lent list, in its order; none where their number is refused.
     pub(crate) fn read(places: &[Place]) -> Places
         ensures { λ r. ⌜ Lists (now (places .entry)) r ⌝ }
     {

@@ -31,7 +31,7 @@ pub struct Place {
     pub early_stall: bool,
 }
 
-// Where a new FIFO or chain that is refused has its one FIFO.
+// The place of the one FIFO that a refused new FIFO or chain is.
 pub const SMALLEST: Place = Place {
     depth: 2,
     early_stall: false,
