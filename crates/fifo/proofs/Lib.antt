@@ -1,4 +1,4 @@
--- Laws that belong to no one function. Users of the crate need `Stepping`, `Lending` and `Some`.
+-- Laws that belong to no one function. Users of the crate need `Depths`, `Stepping`, `Lending` and `Some`.
 pub mod Depths
 pub mod Places
 pub mod Slots

@@ -2,7 +2,7 @@
 // request T-05, bursts longer than a trace; for request T-06, new and handed-in FIFOs and chains at their limits; for request T-08,
 // early-stall FIFOs and a mixed chain; and, for request T-09, a chain's run with a clear in its midst.
 //
-// P1 to P12 and C1 to C6 are shown in `specs/Bench.antt`, and streams cut into bursts in `specs/Bursts.antt`.
+// The examples that are claims about the definitions are those of the crate `examples`.
 use chain::Chain;
 use chain::MAX_FIFOS;
 use chain::Places;
