@@ -1,12 +1,12 @@
 -- What holds while `Places::read` reads a lent list, from blank places to the end.
 -- After i turns the first i places are the list's first i, and a turn puts the list's next place at i.
 -- Assumes nothing.
-use mathlib.Core.Path.{_≡_, refl, sym, _∙_, subst}
+use mathlib.Core.Path.{_≡_, refl, sym, _∙_, ap, subst}
 use Prim.Native.Nat.{ℕ, _+_, _<_, _≤_, zero-le}
 use native.Mathlib.Nat.{le-refl, le-antisymm, lt-of-lt-of-le}
 use native.Mathlib.Numerals.{add-one, add-one-le}
 use mathlib.Core.Bool.{Bool, true, false, _&&_, cond}
-use mathlib.Core.List.{List}
+use mathlib.Core.List.{List, [], _∷_, _++_}
 use lib.Dec.{T as Holds, leb, leb→le}
 use lib.ListN.{length, getD, take, length-set, length-replicate}
 use lib.Seq.{take-suc, take-suc-set}
@@ -59,8 +59,11 @@ reading-on lent read i d less so =
     record {
       count = so .count;
       within = add-one-le less;
-      room = length-set (read .listed) i (getD lent i d) ∙ so .room;
-      listed = rw (add-one i, take-suc-set (read .listed) i (getD lent i d) fits, so .listed) (sym (take-suc lent i d (lt-of-lt-of-le less (wanted-in lent))));
+      room = length-set (read .listed) _ (getD lent i d) ∙ so .room;
+      listed =
+          rw (add-one i)
+          (take-suc-set (read .listed) i (getD lent i d) fits ∙ ap (λ (l : List Place). l ++ (getD lent i d ∷ [])) (so .listed)
+          ∙ sym (take-suc lent i d (lt-of-lt-of-le less (wanted-in lent))));
     }
   where
     fits : i < length (read .listed)
