@@ -14,12 +14,11 @@ use Rattle.fifo.specs.declared.Place.{Place}
 use Rattle.chain.specs.declared.Places.{Places}
 use Rattle.fifo.specs.Queue.{plain}
 use Rattle.chain.specs.Calls.{maxFifos, legalCount}
-use Rattle.chain.specs.Listing.{blank, placed, Lists}
+use Rattle.chain.specs.Listing.{readOff, blank, placed, Lists}
 
 -- ---- how many places are read
--- as many as the list has, none where their number is refused
 abbrev pub wanted : List Place → ℕ
-wanted lent = blank (length lent) .count
+wanted lent = readOff (length lent)
 
 -- a number, or none, is at most the number
 at-most : (b : Bool) (n : ℕ) → cond b n 0 ≤ n

@@ -10,15 +10,19 @@ use Rattle.fifo.specs.Queue.{plain}
 use Rattle.chain.specs.declared.Places.{Places}
 use Rattle.chain.specs.Calls.{maxFifos, legalCount}
 
--- room for so many, or for none where their number is refused
+-- how many places are read off a list of so many: none where their number is refused
+abbrev pub readOff : ℕ → ℕ
+readOff count = cond (legalCount count) count 0
+
+-- room for them
 abbrev pub blank : ℕ → Places
-blank count = record { count = cond (legalCount count) count 0; listed = replicate maxFifos (plain 2) }
+blank count = record { count = readOff count; listed = replicate maxFifos (plain 2) }
 
 -- place i is this one
 abbrev pub placed : Places → ℕ → Place → Places
 placed r i place = record { count = r .count; listed = set (r .listed) i place }
 
--- as many as the lent list has, and none where their number is refused, in its order
+-- the places that are read off the lent list, in its order
 pub record Lists (lent : List Place) (r : Places) : Type 0 where
-  pub count : r .count ≡ cond (legalCount (length lent)) (length lent) 0
+  pub count : r .count ≡ readOff (length lent)
   pub listed : take (r .count) (r .listed) ≡ take (r .count) lent
