@@ -10,8 +10,9 @@ mod ring;
 ghost use mathlib.Core.Path.{_≡_};
 ghost use mathlib.Core.Bool.{true, false, cond};
 ghost use mathlib.Core.List.{[], _∷_};
+ghost use lib.ListN.{length};
 ghost use Rattle.signals.specs.Payloads.{zeros};
-ghost use Rattle.fifo.specs.Queue.{isWell, readyOf, when, cleared, cycled};
+ghost use Rattle.fifo.specs.Queue.{isWell, readyOf, queueIn, when, cleared, cycled};
 ghost use Rattle.fifo.specs.Ring.{value, trusted, queueOf, inRange};
 ghost use Rattle.fifo.specs.Promises.{Made, Steps, answered};
 use ring::every_slot;
@@ -108,6 +109,13 @@ impl Fifo {
         ensures { λ r. ⌜ r ≡ readyOf (trusted self) ⌝ }
     {
         self.is_in_range() & self.pointers().is_ready()
+    }
+
+    // How many payloads a FIFO holds whose held strobes are trusted; none where its numbers are not in range.
+    pub fn held(self) -> usize
+        ensures { λ r. ⌜ r ≡ length (queueIn (trusted self) .held) ⌝ }
+    {
+        if self.is_in_range() { self.count } else { 0 }
     }
 
     // One cycle of a FIFO that has its form; the held strobes are looked at first.
