@@ -31,13 +31,13 @@ use Rattle.chain.proofs.Demand3.{demand3}
 abbrev places : List Place
 places = plain 2 ∷ earlyStall 4 ∷ []
 
-abbrev word : ℕ → Payload
+abbrev pub word : ℕ → Payload
 word n = record { «data» = n; strb = 15 }
 
-abbrev offering : ℕ → (sink : Bool) → Cycle
+abbrev pub offering : ℕ → (sink : Bool) → Cycle
 offering n sink = record { valid = true; payload = word n; sink = sink; clear = false }
 
-abbrev idle : (sink : Bool) → Cycle
+abbrev pub idle : (sink : Bool) → Cycle
 idle sink = record { valid = false; payload = zeros; sink = sink; clear = false }
 
 abbrev clearing : Cycle
@@ -63,7 +63,7 @@ early-stall-takes-three = (refl, refl)
 
 -- Capacities 2 and then 1, which is why an early-stall depth of 2 is refused: 3 is accepted with two held, and is not delivered by the
 -- fourth later sink-ready cycle, but by the fifth.
-abbrev narrow : Ledger
+abbrev pub narrow : Ledger
 narrow = enteredAll (opened (plain 2 ∷ earlyStall 2 ∷ [])) (offering 1 false ∷ offering 2 false ∷ offering 3 false ∷ [])
 
 narrow-accepts : narrow .accepted ≡ word 1 ∷ word 2 ∷ word 3 ∷ []
@@ -93,7 +93,7 @@ cleared-anew = refl
 abbrev none : List Queue
 none = empty (plain 2) ∷ empty (earlyStall 4) ∷ []
 
-abbrev nine : List Queue
+abbrev pub nine : List Queue
 nine = record { place = plain 2; held = word 9 ∷ [] } ∷ empty (earlyStall 4) ∷ []
 
 abbrev three : List Queue
@@ -125,7 +125,7 @@ abbrev nothing : Sample
 nothing = sampleOf false false []
 
 -- a chain of some FIFOs that stand for the queues
-abbrev chainOf : List Queue → Chain
+abbrev pub chainOf : List Queue → Chain
 chainOf qs = record { count = length qs; fifos = map fifoOf qs ++ replicate (maxFifos - length qs) (fifoOf (empty (plain 2))) }
 
 empty-value : (place : Place) → legalPlace place ≡ true → fifo.value (fifoOf (empty place)) ≡ queue.well (empty place)
@@ -136,7 +136,7 @@ none-value : value (chainOf none) ≡ well none
 unfolding value
 none-value = rw (empty-value (plain 2) refl, empty-value (earlyStall 4) refl)
 
-nine-value : value (chainOf nine) ≡ well nine
+pub nine-value : value (chainOf nine) ≡ well nine
 unfolding value legalStrbs
 nine-value =
     rw (some-fifo (record { place = plain 2; held = word 9 ∷ [] }) refl (omega arith) refl, empty-value (earlyStall 4) refl)

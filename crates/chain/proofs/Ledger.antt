@@ -15,7 +15,7 @@ use Rattle.chain.specs.Line.{mouth, cycle, heldIn, CapacityAtLeast2}
 use Rattle.chain.specs.Cycles.{Cycle, offered, readyIn, acceptedIn, deliveredIn, after, afterAll}
 use Rattle.chain.specs.Demand3.{Ledger, opened, entered, enteredAll, readies, NoClear, Begins, Drops, Clears}
 use Rattle.chain.proofs.Order.{leaving, entering, cycle-order}
-use Rattle.chain.proofs.Need.{count, need, ticks, need-ahead, need-bound, need-none, need-falls, falls-ticks, cycle-length, cycle-count}
+use Rattle.chain.proofs.Need.{count, need, need-ahead, need-bound, need-none, Falls, need-falls, falls-ticks, cycle-length, cycle-count, leaving-one}
 
 -- What every cycle keeps: the order, the number k of FIFOs, and their room.
 pub record Sound (k : ℕ) (l : Ledger) : Type 0 where
@@ -60,7 +60,7 @@ entered-delivered : (l : Ledger) (c : Cycle) → c .clear ≡ false →
     entered l c .delivered ≡ l .delivered ++ leaving (l .line) (offered c) (c .sink)
 entered-delivered l c e = rw e
 
-sound-entered : (k : ℕ) (l : Ledger) (c : Cycle) → Sound k l → Sound k (entered l c)
+pub sound-entered : (k : ℕ) (l : Ledger) (c : Cycle) → Sound k l → Sound k (entered l c)
 sound-entered k l c s = by-clear (c .clear) refl
   where
     order : l .accepted ++ entering (l .line) (offered c) (c .sink)
@@ -86,32 +86,41 @@ pub sound-all : (k : ℕ) (l : Ledger) (cs : List Cycle) → Sound k l → Sound
 sound-all k l [] s = s
 sound-all k l (c ∷ cs) s = sound-all k (entered l c) cs (sound-entered k l c s)
 
--- The m payloads nearest the outlet are delivered once the sink was ready as often as they need.
-stretch-delivers : (k : ℕ) (l : Ledger) (m : ℕ) (stretch : List Cycle) → Sound k l → m ≤ count (l .line) → NoClear stretch →
+-- How many a cycle with no clear delivers: one at most.
+abbrev pub gone : Ledger → Cycle → ℕ
+gone l c = length (leaving (l .line) (offered c) (c .sink))
+
+pub gone-one : (l : Ledger) (c : Cycle) → gone l c ≤ 1
+gone-one l c = leaving-one (l .line) (offered c) (c .sink) (offered-one c)
+
+pub gone-delivered : (l : Ledger) (c : Cycle) → c .clear ≡ false → length (entered l c .delivered) ≡ length (l .delivered) + gone l c
+gone-delivered l c e = ap length (entered-delivered l c e) ∙ length-append (l .delivered) _
+
+-- Of the m payloads nearest the outlet the others are still held, and need what they needed less this cycle.
+pub others-held : (l : Ledger) (c : Cycle) → c .clear ≡ false → (m : ℕ) → m ≤ count (l .line) → m - gone l c ≤ count (entered l c .line)
+others-held l c e m h = rw e (omega (arith, cycle-count (l .line) (offered c) (c .sink)))
+
+pub others-need : (k : ℕ) (l : Ledger) (c : Cycle) → Sound k l → c .clear ≡ false → (m : ℕ) → m ≤ count (l .line) →
+    Falls (c .sink) (need (entered l c .line) (m - gone l c)) (need (l .line) m)
+others-need k l c s e m h =
+    rw e
+    (rw (need-ahead (empty (plain 2)) (l .line) m h) at
+    (need-falls (l .line) (s .room) (empty (plain 2)) (offered c) (c .sink) m (offered-one c) (omega arith)))
+
+-- They are delivered once the sink was ready as often as they need.
+pub stretch-delivers : (k : ℕ) (l : Ledger) (m : ℕ) (stretch : List Cycle) → Sound k l → m ≤ count (l .line) → NoClear stretch →
     need (l .line) m ≤ readies stretch → length (l .delivered) + m ≤ length (enteredAll l stretch .delivered)
 stretch-delivers k l m [] s h n enough = omega (arith, need-none (l .line) m h (omega arith))
 stretch-delivers k l m (c ∷ cs) s h n enough =
-    omega (arith, longer, stretch-delivers k (entered l c) (m - gone) cs (sound-entered k l c s) place (n .1) less)
-  where
-    gone : ℕ
-    gone = length (leaving (l .line) (offered c) (c .sink))
-
-    longer : length (entered l c .delivered) ≡ length (l .delivered) + gone
-    longer = ap length (entered-delivered l c (n .0)) ∙ length-append (l .delivered) _
-
-    place : m - gone ≤ count (entered l c .line)
-    place = rw (n .0) (omega (arith, cycle-count (l .line) (offered c) (c .sink)))
-
-    fall : need (cycle (l .line) (offered c) (c .sink)) (m - gone) ≤ need (l .line) m - ticks (c .sink)
-    fall =
-        rw (need-ahead (empty (plain 2)) (l .line) m h) at
-        (falls-ticks (c .sink) _ _ (need-falls (l .line) (s .room) (empty (plain 2)) (offered c) (c .sink) m (offered-one c) (omega arith)))
-
-    less : need (entered l c .line) (m - gone) ≤ readies cs
-    less = rw (n .0) (omega (arith, fall))
+    let less = falls-ticks (c .sink) _ _ (others-need k l c s (n .0) m h) in
+    omega (
+      arith,
+      gone-delivered l c (n .0),
+      stretch-delivers k (entered l c) (m - gone l c) cs (sound-entered k l c s) (others-held l c (n .0) m h) (n .1) (omega (arith, less)),
+    )
 
 -- with no clear the accepted ones are only added to
-accepted-grows : (l : Ledger) (cs : List Cycle) → NoClear cs → Begins (l .accepted) (enteredAll l cs .accepted)
+pub accepted-grows : (l : Ledger) (cs : List Cycle) → NoClear cs → Begins (l .accepted) (enteredAll l cs .accepted)
 accepted-grows l [] n = ([], sym (append-nil (l .accepted)))
 accepted-grows l (c ∷ cs) n = joined (accepted-grows (entered l c) cs (n .1))
   where

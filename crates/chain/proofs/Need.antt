@@ -28,7 +28,7 @@ abbrev pub ticks : Bool → ℕ
 ticks sink = cond sink 1 0
 
 -- of two numbers the first is at most the second, or above it
-by-size : {P : Type 0} (a b : ℕ) → (a ≤ b → P) → (b < a → P) → P
+pub by-size : {P : Type 0} (a b : ℕ) → (a ≤ b → P) → (b < a → P) → P
 by-size {P} a b most above = by-test (leb a b) refl
   where
     by-test : (t : Bool) → leb a b ≡ t → P
@@ -39,9 +39,14 @@ by-size {P} a b most above = by-test (leb a b) refl
 pub need-ahead : (q : Queue) (qs : List Queue) (m : ℕ) → m ≤ count qs → need (q ∷ qs) m ≡ need qs m
 need-ahead q qs m h = rw (le-leb m (count qs) h)
 
-need-mouth : (q : Queue) (qs : List Queue) (m : ℕ) → count qs < m →
+pub need-mouth : (q : Queue) (qs : List Queue) (m : ℕ) → count qs < m →
     need (q ∷ qs) m ≡ (m - count qs) + max (need qs (count qs)) (length qs)
 need-mouth q qs m h = rw (lt-leb m (count qs) h)
+
+-- none need nothing
+pub need-zero : (qs : List Queue) → need qs 0 ≡ 0
+need-zero [] = refl
+need-zero (q ∷ qs) = need-ahead q qs 0 (omega arith) ∙ need-zero qs
 
 -- The bound: the payloads up to it, and the FIFOs but one.
 pub need-bound : (qs : List Queue) (m : ℕ) → need qs m ≤ m + (length qs - 1)
@@ -66,7 +71,7 @@ pub cycle-count : (qs : List Queue) (offer : List Payload) (sink : Bool) →
     length (leaving qs offer sink) + count (cycle qs offer sink) ≡ count qs + length (entering qs offer sink)
 cycle-count qs offer sink = simp length-append at (ap length (cycle-order qs offer sink))
 
-count-mouth : (q : Queue) (qs : List Queue) → count (q ∷ qs) ≡ count qs + length (q .held)
+pub count-mouth : (q : Queue) (qs : List Queue) → count (q ∷ qs) ≡ count qs + length (q .held)
 count-mouth q qs = length-append (heldIn qs) (q .held)
 
 shown-one : (q : Queue) → length (shown q) ≤ 1
@@ -75,6 +80,11 @@ shown-one q = of-held (q .held)
     of-held : (held : List Payload) → length (oldest held) ≤ 1
     of-held [] = omega arith
     of-held (p ∷ ps) = omega arith
+
+pub leaving-one : (qs : List Queue) (offer : List Payload) (sink : Bool) → length offer ≤ 1 → length (leaving qs offer sink) ≤ 1
+leaving-one qs offer false one = omega arith
+leaving-one [] offer true one = one
+leaving-one (q ∷ qs) offer true one = leaving-one qs (shown q) true (shown-one q)
 
 -- Capacity 2 enters here: a mouth that is not ready holds two or more, and they need longer than the way alone.
 full-needs : (qs : List Queue) → CapacityAtLeast2 qs → mouth qs true ≡ false → length qs < need qs (count qs)

@@ -1,11 +1,11 @@
 -- A promise is kept where nothing is refused and the cycles were made, and where a call is refused with the number that is given; so
--- for a step, and for a run. Assumes nothing.
+-- for a step, and for a run; and in the same way for a delivery time. Assumes nothing.
 use mathlib.Core.Path.{_≡_, refl, sym, ap, _∙_}
 use mathlib.Core.Bool.{Bool, true, false, false≢true}
 use mathlib.Core.List.{List}
 use mathlib.Core.Option.{Option, none, some}
-use Prim.Native.Nat.{ℕ}
-use borrow.Author.Tests.{eqb-true, ltb-false, not-false}
+use Prim.Native.Nat.{ℕ, _<_}
+use borrow.Author.Tests.{eqb-true, ltb-false, lt-leb, not-false}
 use lib.Dec.{eqb, ltb}
 use lib.ListN.{length}
 use Rattle.signals.specs.declared.Payload.{Payload}
@@ -19,9 +19,12 @@ use Rattle.signals.proofs.Bools.{both, neither}
 use Rattle.signals.proofs.Tables.{none-keeps}
 use Rattle.chain.specs.declared.Chain.{Chain}
 use Rattle.chain.specs.declared.Stepped.{Stepped}
+use Rattle.chain.specs.declared.DeliveryTime.{DeliveryTime}
+use Rattle.chain.specs.Line.{heldIn}
 use Rattle.chain.specs.Cycles.{afterAll}
 use Rattle.chain.specs.Calls.{well, isWell, queues, Stepping, grounds, stepGrounds, runGrounds, asked, accepted, refused, answerBy, backBy}
-use Rattle.chain.specs.Promises.{value, Done, Promised, stepDone, runDone}
+use Rattle.chain.specs.Timing.{deliveryTime, Timing, timeGrounds, timingBy}
+use Rattle.chain.specs.Promises.{value, Done, Promised, stepDone, runDone, Times}
 use Rattle.chain.specs.Cycling.{given, Cycled, Sized, Traced}
 
 -- nothing refused: the rules' answer, and the row after the call's cycles
@@ -104,3 +107,17 @@ module _ (chain : Chain) (controls words sinks outControls outWords : List ℕ) 
       (sym g)
       refl
       refl
+
+module _ (chain : Chain) (i : ℕ) where
+  -- a delivery time that was found
+  pub time-found : (cycles : ℕ) → isWell (value chain) ≡ true → i < length (heldIn (queues (value chain)))
+      → cycles ≡ deliveryTime (queues (value chain)) i → Times chain i (record { outcome = Accepted; cycles = cycles })
+  time-found cycles form held e =
+      let none-refuses : firstOf (timeGrounds (value chain) i) ≡ none = rw (form, lt-leb (length (heldIn (queues (value chain)))) i held) in
+      ap {B = Timing} (λ (n : ℕ). record { refusal = none; cycles = n }) e
+      ∙ sym (ap (λ (o : Option ℕ). timingBy o (queues (value chain)) i) none-refuses)
+
+  -- one that was refused, for the chain's form or for the payload
+  pub time-refused : (why : Refusal) → firstOf (timeGrounds (value chain) i) ≡ some (numberOf why)
+      → Times chain i (record { outcome = Refused why; cycles = 0 })
+  time-refused why given = sym (ap (λ (o : Option ℕ). timingBy o (queues (value chain)) i) given)

@@ -3,10 +3,10 @@
 use mathlib.Core.Path.{_≡_, refl, sym, ap, _∙_}
 use mathlib.Core.Bool.{Bool, true, false, cond}
 use mathlib.Core.List.{List, [], _∷_, _++_, map, map-append, append-assoc, append-nil}
-use Prim.Native.Nat.{ℕ, _+_, _≤_, _<_}
+use Prim.Native.Nat.{ℕ, zero, suc, _+_, _≤_, _<_}
 use native.Mathlib.Omega.{arith}
 use native.Mathlib.Numerals.{add-one}
-use lib.ListN.{length, getD, set, take, drop, drop-of-length-le}
+use lib.ListN.{length, getD, set, take, drop, length-map, drop-of-length-le}
 use lib.Seq.{take-all, drop-cons, drop-set-lt, take-suc-set}
 use Rattle.signals.specs.declared.Payload.{Payload}
 use Rattle.signals.specs.Payloads.{zeros, legalStrb}
@@ -36,6 +36,11 @@ wells-of-line (queue.well q ∷ vs) qs e = by-rest (lineOf vs) (wells-of-line vs
         → queue.well q ∷ vs ≡ map queue.well qs
     by-rest ill wells r e = absurd (clash cc)
     by-rest (well rs) wells r e = let same : q ∷ rs ≡ qs = cc in rw (← same) (ap (λ (l : List queue.Value). queue.well q ∷ l) (wells rs r))
+
+pub well-at : (qs : List Queue) (j : ℕ) (d : Queue) → j < length qs → getD (map queue.well qs) j queue.ill ≡ queue.well (getD qs j d)
+well-at [] j d h = absurd (omega arith)
+well-at (q ∷ qs) zero d h = refl
+well-at (q ∷ qs) (suc j) d h = well-at qs j d (omega arith)
 
 -- a chain's ready is its first FIFO's
 pub first-ready : (chain : Chain) (d : Fifo) (sink : Bool) → Formed chain → length (chain .fifos) ≡ maxFifos
@@ -108,6 +113,23 @@ used-ready fs n i d others sink h k e =
     let inside : i < length vs = omega (arith, used-length fs n k) in
     let f = front vs i others inside e in
     ready-of-value _ (f .first) (sym (used-at fs n i d h k) ∙ f .has) ∙ sym (ap readyOf (f .has)) ∙ mouth-ready vs i others sink inside e
+
+-- the row of a chain that has its form is as long as its count says, and has at each place the queue of the FIFO there
+module _ (chain : Chain) (f : Formed chain) (wide : length (chain .fifos) ≡ maxFifos) where
+  used-wells : valuesFrom (chain .fifos) 0 (chain .count) ≡ map queue.well (queues (value chain))
+  used-wells = wells-of-line _ _ (f .row)
+
+  pub row-length : length (queues (value chain)) ≡ chain .count
+  row-length =
+      sym (ap length used-wells ∙ length-map (queues (value chain)) queue.well)
+      ∙ used-length (chain .fifos) (chain .count) (omega (arith, f .most))
+
+  pub row-at : (j : ℕ) (d : Fifo) (e : Queue) → j < chain .count
+      → fifo.value (getD (chain .fifos) j d) ≡ queue.well (getD (queues (value chain)) j e)
+  row-at j d e h =
+      sym (used-at (chain .fifos) (chain .count) j d h (omega (arith, f .most)))
+      ∙ ap (λ (vs : List queue.Value). getD vs j queue.ill) used-wells
+      ∙ well-at (queues (value chain)) j e (omega (arith, row-length))
 
 -- so far in a cycle: what is served is as the rule leaves it, and the rest of the row, fed with what is handed on, makes the rule's row and
 -- outlet

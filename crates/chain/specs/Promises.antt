@@ -1,4 +1,4 @@
--- What `Chain::new`, `Chain::at`, `Chain::step` and `Chain::run` promise. FIFOs past the count of a chain that is handed back are free,
+-- What `Chain::new`, `Chain::at`, `Chain::step`, `Chain::run` and `Chain::delivery_time` promise. FIFOs past the count of a chain that is handed back are free,
 -- unless the call was refused. Assumes nothing.
 use Prim.Native.Nat.{ℕ}
 use mathlib.Core.Bool.{Bool, false, cond}
@@ -16,7 +16,9 @@ use Rattle.chain.specs.declared.Places.{Places}
 use Rattle.chain.specs.declared.NewChain.{NewChain}
 use Rattle.chain.specs.declared.Stepped.{Stepped}
 use Rattle.chain.specs.declared.Ran.{Ran}
+use Rattle.chain.specs.declared.DeliveryTime.{DeliveryTime}
 use Rattle.chain.specs.Calls.{Value, ill, well, isWell, legalCount, newGrounds, newLine, Call, step, run, Answer, grounds, answer, back}
+use Rattle.chain.specs.Timing.{Timing, timing}
 
 -- the values of FIFOs in a row, if all have their form
 abbrev pub before : queue.Queue → Value → Value
@@ -68,3 +70,10 @@ runDone controls words sinks outControls outWords r exitControls exitWords =
       answered = record { refusal = refusalOf (r .outcome); outControls = exitControls; outWords = exitWords };
       back = r .next;
     }
+
+-- What the delivery time's call promises: its answer is the rules'.
+abbrev pub timed : DeliveryTime → Timing
+timed r = record { refusal = refusalOf (r .outcome); cycles = r .cycles }
+
+abbrev pub Times : Chain → (i : ℕ) → DeliveryTime → Type 0
+Times given i r = timed r ≡ timing (value given) i

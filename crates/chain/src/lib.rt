@@ -1,19 +1,21 @@
 // One to sixteen FIFOs in a row, a cycle or a trace at a time.
 //
-// Writes out the line of "The stage and the line" of document 01, with requests T-06, T-08 and T-09. The crate sees of a FIFO its value
-// and its promise (`Queue` and `Promises` of `fifo`), and nothing of how it is kept. Demand 3 stands in `specs/Demand3.antt`.
+// Writes out the line of "The stage and the line" of document 01, with requests T-06, T-08, T-09 and T-12. The crate sees of a FIFO its value
+// and its promise (`Queue` and `Promises` of `fifo`), and nothing of how it is kept. Demand 3 stands in `specs/Demand3.antt`,
+// and what the delivery time means in `specs/ExactTime.antt`.
 mod cycle;
 mod empty;
 mod form;
 mod laid;
 mod lent;
+mod time;
 mod trace;
 
 ghost use mathlib.Core.Path.{_≡_};
 ghost use mathlib.Core.Bool.{false};
 ghost use Rattle.signals.specs.declared.Outcome.the-variants.{Refused};
 ghost use Rattle.signals.specs.Payloads.{zeros};
-ghost use Rattle.chain.specs.Promises.{placesOf, Made, Promised, stepDone, runDone};
+ghost use Rattle.chain.specs.Promises.{placesOf, Made, Promised, stepDone, runDone, Times};
 use empty::is_accepted;
 use fifo::Fifo;
 use fifo::Place;
@@ -57,6 +59,12 @@ pub struct Stepped {
 pub struct Ran {
     pub outcome: Outcome,
     pub next: Chain,
+}
+
+// After how many cycles a payload is delivered; 0 means this very cycle.
+pub struct DeliveryTime {
+    pub outcome: Outcome,
+    pub cycles: usize,
 }
 
 impl Chain {
@@ -119,6 +127,20 @@ impl Chain {
         Ran {
             outcome: outcome,
             next: self,
+        }
+    }
+
+    // When payload i is delivered, held payloads being numbered from the outlet, 0 first, to a sink that is ready in this cycle and in
+    // every later one, with no clear. What is offered meanwhile does not alter it.
+    pub fn delivery_time(self, i: usize) -> DeliveryTime
+        ensures { λ r. ⌜ Times self i r ⌝ }
+    {
+        if self.is_well() {
+            return self.time_of(i);
+        }
+        DeliveryTime {
+            outcome: Outcome::Refused(Refusal::BadState),
+            cycles: 0,
         }
     }
 

@@ -3,9 +3,11 @@ use Rattle.signals.specs.Refusals.{refusalOf}
 use Rattle.chain.specs.declared.NewChain.{NewChain}
 use Rattle.chain.specs.declared.Stepped.{Stepped}
 use Rattle.chain.specs.declared.Ran.{Ran}
+use Rattle.chain.specs.declared.DeliveryTime.{DeliveryTime}
 use Rattle.exports.specs.declared.fifos.ChainNew.{ChainNew}
 use Rattle.exports.specs.declared.fifos.ChainStep.{ChainStep}
 use Rattle.exports.specs.declared.fifos.ChainRun.{ChainRun}
+use Rattle.exports.specs.declared.fifos.ChainDeliveryTime.{ChainDeliveryTime}
 use Rattle.exports.specs.Numbers.{orZero}
 
 abbrev pub newNumbers : NewChain → ChainNew
@@ -23,3 +25,6 @@ stepNumbers s =
 
 abbrev pub runNumbers : Ran → ChainRun
 runNumbers ran = record { refusal = orZero (refusalOf (ran .outcome)); next = ran .next }
+
+abbrev pub timeNumbers : DeliveryTime → ChainDeliveryTime
+timeNumbers time = record { refusal = orZero (refusalOf (time .outcome)); cycles = time .cycles }

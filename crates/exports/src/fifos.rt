@@ -4,11 +4,11 @@ ghost use Rattle.fifo.specs.Queue.{isWell};
 ghost use Rattle.fifo.specs.Promises as ofFifo;
 ghost use Rattle.fifo.specs.Promises.{value, Steps};
 ghost use Rattle.chain.specs.Promises as ofChain;
-ghost use Rattle.chain.specs.Promises.{Promised, stepDone, runDone};
+ghost use Rattle.chain.specs.Promises.{Promised, stepDone, runDone, Times};
 ghost use Rattle.exports.specs.Numbers.{InNumbers};
 ghost use Rattle.exports.specs.Fifos.{newNumbers, stepNumbers};
 ghost use Rattle.exports.specs.Chains as chains;
-ghost use Rattle.exports.specs.Chains.{runNumbers};
+ghost use Rattle.exports.specs.Chains.{runNumbers, timeNumbers};
 use chain::Chain;
 use chain::NewChain;
 use fifo::Fifo;
@@ -52,6 +52,13 @@ pub struct ChainStep {
 pub struct ChainRun {
     pub refusal: u8,
     pub next: Chain,
+}
+
+// After how many cycles a payload is delivered.
+#[repr(C)]
+pub struct ChainDeliveryTime {
+    pub refusal: u8,
+    pub cycles: usize,
 }
 
 #[no_mangle]
@@ -157,5 +164,17 @@ pub extern "C" fn floealder_chain_run(
     ChainRun {
         refusal: crate::refusal(outcome),
         next,
+    }
+}
+
+#[no_mangle]
+pub extern "C" fn floealder_chain_delivery_time(chain: Chain, i: usize) -> ChainDeliveryTime
+    ensures { λ r. ⌜ InNumbers (λ w. Times chain i w) timeNumbers r ⌝ }
+{
+    let time = chain.delivery_time(i);
+    let outcome = time.outcome;
+    ChainDeliveryTime {
+        refusal: crate::refusal(outcome),
+        cycles: time.cycles,
     }
 }
