@@ -132,6 +132,14 @@ pub struct ChainRun {
     pub next: Chain,
 }
 
+/// After how many cycles a payload is delivered.
+#[repr(C)]
+#[derive(Clone, Copy, PartialEq, Eq, Debug)]
+pub struct DeliveryTime {
+    pub refusal: u8,
+    pub cycles: usize,
+}
+
 /// The address generator's settings.
 #[repr(C)]
 #[derive(Clone, Copy, PartialEq, Eq, Debug)]

@@ -73,6 +73,7 @@ extern "C" {
         out_data: *mut u32,
         out_datas: usize,
     ) -> ChainRun;
+    fn floealder_chain_delivery_time(chain: Chain, i: usize) -> DeliveryTime;
     fn floealder_mux_static(
         t0: *const u8,
         cycles0: usize,
@@ -210,6 +211,10 @@ pub fn chain_run(
             out_data.len(),
         )
     }
+}
+
+pub fn chain_delivery_time(chain: Chain, i: usize) -> DeliveryTime {
+    unsafe { floealder_chain_delivery_time(chain, i) }
 }
 
 /// The part's length; its bytes are copied to the output's start.

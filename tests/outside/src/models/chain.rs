@@ -1,8 +1,8 @@
-//! "The stage and the line", with requests T-08 and T-09: a line of stages, by its value.
+//! "The stage and the line", with requests T-08, T-09 and T-12: a line of stages, by its value.
 
 use super::fifo::{legal_place, refused, Shown, Stage, NOTHING};
 use super::MAX_CYCLES;
-use crate::answers::{Chain, Payload, Place};
+use crate::answers::{Chain, DeliveryTime, Payload, Place};
 
 /// A line's value: its stages, the mouth's first.
 #[derive(Clone, PartialEq, Eq, Hash, Debug)]
@@ -20,6 +20,12 @@ impl Line {
         }
         let stages: Option<Vec<Stage>> = chain.fifos[..chain.count].iter().map(Stage::of).collect();
         stages.map(Line)
+    }
+
+    /// The payloads held in all stages, nearest the outlet first.
+    pub fn held(&self) -> Vec<Payload> {
+        let stages = self.0.iter().rev();
+        stages.flat_map(|stage| stage.held.clone()).collect()
     }
 
     fn clear(&mut self) {
@@ -131,4 +137,51 @@ pub fn run(
         out_data[c] = shown.payload.data;
     }
     (0, Some(line))
+}
+
+/// Whether the delivery time of payload i is refused.
+pub fn time_refusal(line: &Option<Line>, i: usize) -> u8 {
+    match line {
+        None => 6,
+        Some(line) if i >= line.held().len() => 8,
+        Some(_) => 0,
+    }
+}
+
+/// In which cycle payload i is delivered, 0 being the first, found by running the line with its sink ready and these
+/// offers. What is delivered meanwhile is what was held, in order.
+pub fn time_by_running(mut line: Line, i: usize, offer: impl Fn() -> Option<Payload>) -> usize {
+    let held = line.held();
+    let mut delivered = 0;
+    for cycle in 0.. {
+        let shown = line.cycle(offer(), true);
+        if shown.valid {
+            assert_eq!(shown.payload, held[delivered]);
+            if delivered == i {
+                return cycle;
+            }
+            delivered += 1;
+        }
+    }
+    unreachable!()
+}
+
+/// The same by request T-12's formula: stages are numbered 1 to k from the mouth.
+pub fn time_by_formula(line: &Line, i: usize) -> usize {
+    let k = line.0.len();
+    let stages = (1..=k).rev();
+    let stage_of: Vec<usize> = stages
+        .flat_map(|stage| vec![stage; line.0[stage - 1].held.len()])
+        .collect();
+    (0..=i).map(|j| k - stage_of[j] + i - j).max().unwrap()
+}
+
+/// The delivery time of payload i of a line of any form; no offers come.
+pub fn delivery_time(line: Option<Line>, i: usize) -> DeliveryTime {
+    let refusal = time_refusal(&line, i);
+    let cycles = match line {
+        Some(line) if refusal == 0 => time_by_running(line, i, || None),
+        _ => 0,
+    };
+    DeliveryTime { refusal, cycles }
 }

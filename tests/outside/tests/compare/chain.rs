@@ -168,7 +168,7 @@ fn at_limits(given: &Chain, (end, refusal): &(Chain, u8)) -> BTreeSet<String> {
 }
 
 /// The kinds of a chain's FIFOs.
-fn mix(places: impl Iterator<Item = Place>) -> &'static str {
+pub fn mix(places: impl Iterator<Item = Place>) -> &'static str {
     let kinds: BTreeSet<bool> = places.map(|place| place.early_stall).collect();
     match (kinds.contains(&false), kinds.contains(&true)) {
         (true, true) => "mixed",

@@ -13,7 +13,7 @@ const AWAITED: Payload = Payload { data: 1, strb: 15 };
 const CYCLES: [(bool, bool); 4] = [(false, false), (false, true), (true, false), (true, true)];
 
 /// One place has each capacity. That of capacity 1 is refused, and the model of a cycle does not ask.
-fn place_of(capacity: usize) -> Place {
+pub fn place_of(capacity: usize) -> Place {
     match capacity % 2 {
         0 => Place::plain(capacity),
         _ => Place::early_stall(capacity + 1),

@@ -4,6 +4,7 @@ mod addressgen;
 mod bench_text;
 mod chain;
 mod delay;
+mod delivery_time;
 mod fields;
 mod fifo;
 mod memory;

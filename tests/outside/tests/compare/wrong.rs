@@ -1,9 +1,11 @@
 //! The comparisons can fail: each tells a call apart that is wrong in one thing.
 
-use crate::{addressgen, bench_text, chain, fifo, memory, monitor, mux, stream, strobes};
+use crate::{
+    addressgen, bench_text, chain, delivery_time, fifo, memory, monitor, mux, stream, strobes,
+};
 use outside::answers::{
-    Chain, ChainRun, Fifo, Monitor, Payload, Place, StreamAnswer, BROKEN, CLEAN, MAX_DEPTH,
-    MAX_FIFOS,
+    Chain, ChainRun, DeliveryTime, Fifo, Monitor, Payload, Place, StreamAnswer, BROKEN, CLEAN,
+    MAX_DEPTH, MAX_FIFOS,
 };
 use outside::models::chain::{Line, Offered};
 use outside::models::fifo::{legal_place, Stage, NOTHING};
@@ -746,6 +748,112 @@ fn a_run_with_other_bits_reserved() {
         legal.control.iter_mut().for_each(|c| *c &= !8);
         linked::chain_run(chain, &legal, out_control, out_data)
     });
+}
+
+/// A call that answers otherwise is told apart. It is handed the right answer.
+fn time_differs(wrong: impl Fn(Chain, usize, DeliveryTime) -> DeliveryTime) {
+    differs(|random| {
+        let (chain, i) = delivery_time::any_time(random);
+        delivery_time::compare_time(random, chain, i, |chain, i| {
+            wrong(chain, i, linked::chain_delivery_time(chain, i))
+        })
+    });
+}
+
+/// A call that finds another time for a payload that is held is told apart. It is handed the line and the right time.
+fn found_differs(wrong: impl Fn(&Line, usize, usize) -> usize) {
+    time_differs(|chain, i, mut answer| {
+        if answer.refusal == 0 {
+            answer.cycles = wrong(&Line::of(&chain).unwrap(), i, answer.cycles);
+        }
+        answer
+    });
+}
+
+/// The FIFOs ahead of the one that holds payload i, and its number among those held there.
+fn stands(line: &Line, mut i: usize) -> (usize, usize) {
+    for (ahead, stage) in line.0.iter().rev().enumerate() {
+        match i.checked_sub(stage.held.len()) {
+            Some(left) => i = left,
+            None => return (ahead, i),
+        }
+    }
+    unreachable!()
+}
+
+#[test]
+fn a_time_by_the_payloads_own_place() {
+    found_differs(|line, i, _| stands(line, i).0);
+    found_differs(|line, i, _| stands(line, i).0 + stands(line, i).1);
+    found_differs(|line, i, _| stands(line, i).0 + i);
+}
+
+#[test]
+fn a_time_by_the_number_of_payloads_ahead() {
+    found_differs(|_, i, _| i);
+    found_differs(|line, i, _| i.max(stands(line, i).0));
+}
+
+/// One more is what FIFOs numbered from 0 would give.
+#[test]
+fn a_time_one_cycle_off() {
+    found_differs(|_, _, cycles| cycles + 1);
+    found_differs(|_, _, cycles| cycles.saturating_sub(1));
+}
+
+#[test]
+fn payloads_numbered_from_the_mouth() {
+    found_differs(|line, i, _| models::chain::time_by_formula(line, line.held().len() - 1 - i));
+}
+
+#[test]
+fn a_payload_that_is_not_held_answered() {
+    time_differs(|chain, i, mut answer| {
+        if answer.refusal == 8 && Line::of(&chain).is_some_and(|line| line.held().len() == i) {
+            answer.refusal = 0;
+        }
+        answer
+    });
+}
+
+#[test]
+fn a_time_with_the_form_not_tested() {
+    time_differs(|mut chain, i, answer| {
+        let used = chain.fifos[..chain.count.min(MAX_FIFOS)].iter_mut();
+        used.for_each(|fifo| fifo.slots.iter_mut().for_each(|slot| slot.strb &= 15));
+        let trusted = linked::chain_delivery_time(chain, i);
+        if answer.refusal == 6 {
+            trusted
+        } else {
+            answer
+        }
+    });
+}
+
+#[test]
+fn a_time_refused_in_another_order() {
+    time_differs(|chain, i, mut answer| {
+        let used = chain.fifos.get(..chain.count).unwrap_or(&[]);
+        let counted = used
+            .iter()
+            .fold(0, |sum: usize, fifo| sum.saturating_add(fifo.count));
+        if answer.refusal == 6 && counted <= i {
+            answer.refusal = 8;
+        }
+        answer
+    });
+}
+
+#[test]
+fn a_refused_time_that_is_not_0() {
+    for refusal in [6, 8] {
+        time_differs(|_, i, mut answer| {
+            if answer.refusal == refusal {
+                answer.cycles = i;
+            }
+            answer
+        });
+    }
 }
 
 #[test]
