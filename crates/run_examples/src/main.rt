@@ -1,6 +1,7 @@
 // Runs the Run examples of document 01, "Bench examples": the depths of a FIFO and the length of a trace that are accepted; for
 // request T-05, bursts longer than a trace; for request T-06, new and handed-in FIFOs and chains at their limits; for request T-08,
-// early-stall FIFOs and a mixed chain; and, for request T-09, a chain's run with a clear in its midst.
+// early-stall FIFOs and a mixed chain; for request T-09, a chain's run with a clear in its midst; and, for request T-12, when held payloads
+// are delivered.
 //
 // The examples that are claims about the definitions are those of the crate `examples`.
 use chain::Chain;
@@ -77,13 +78,19 @@ fn run_new(place: Place) {
     print_outcome(outcome);
 }
 
-// Steps a FIFO that is handed in at a place, with so many held. Its strobes are legal.
-fn run_handed_in(place: Place, held: usize) {
-    print_place(b"handed-in ", place);
-    print_case(b" holding ", held);
+// A FIFO at a place, with so many held. Its strobes are legal.
+fn holding(place: Place, held: usize) -> Fifo {
     let mut fifo = Fifo::new(plain(2)).fifo;
     fifo.place = place;
     fifo.count = held;
+    fifo
+}
+
+// Steps a FIFO that is handed in.
+fn run_handed_in(place: Place, held: usize) {
+    print_place(b"handed-in ", place);
+    print_case(b" holding ", held);
+    let fifo = holding(place, held);
     let offer = Payload { data: 1, strb: 15 };
     let outcome = fifo.step(true, offer, true, false).outcome;
     print_outcome(outcome);
@@ -180,6 +187,45 @@ fn run_clear() {
     print_cycle(out_control[6], out_data[6]);
 }
 
+// Asks when payload i is delivered of a chain of three FIFOs, plain of depth 2 but for the second, an early-stall one of depth 4, that hold
+// so many.
+fn run_time(mouth: usize, middle: usize, end: usize, i: usize) {
+    print_case(b"FIFOs holding ", mouth);
+    print_case(b", ", middle);
+    print_case(b", ", end);
+    print_case(b", payload ", i);
+    let mut fifos = [holding(plain(2), 0); MAX_FIFOS];
+    fifos[0] = holding(plain(2), mouth);
+    fifos[1] = holding(early_stall(4), middle);
+    fifos[2] = holding(plain(2), end);
+    let chain = Chain {
+        count: 3,
+        fifos: fifos,
+    };
+    let time = chain.delivery_time(i);
+    let outcome = time.outcome;
+    match outcome {
+        Outcome::Accepted => {
+            print_case(b": delivered after ", time.cycles);
+            io::write_all(STDOUT_FILENO, b"\n");
+        }
+        Outcome::Refused(why) => print_refused(why),
+    }
+}
+
+// One payload at the mouth, a full chain, one with a gap, an empty one, and one whose mouth holds too many.
+fn run_times() {
+    run_time(1, 0, 0, 0);
+    run_time(2, 3, 2, 0);
+    run_time(2, 3, 2, 6);
+    run_time(2, 3, 2, 7);
+    run_time(2, 0, 1, 0);
+    run_time(2, 0, 1, 1);
+    run_time(2, 0, 1, 2);
+    run_time(0, 0, 0, 0);
+    run_time(3, 0, 0, 0);
+}
+
 // FIFOs of legal depths, then of illegal ones: new ones, and ones that are handed in.
 fn run_depths() {
     run_new(plain(2));
@@ -249,4 +295,5 @@ fn main() {
     run_burst(MAX_SEEN - MAX_CYCLES as u32, &control, &words);
     run_burst(MAX_SEEN, &control[..0], &words[..0]);
     run_clear();
+    run_times();
 }
