@@ -11,11 +11,12 @@ use lib.ListN.{length, take, drop, length-append, take-append-drop}
 use lib.Seq.{take-all, take-append-add, length-take-le}
 use lib.Dec.{leb}
 use Rattle.signals.proofs.Bools.{either, clash}
-use Rattle.bench_text.specs.Digits.{decimal}
-use Rattle.bench_text.specs.Form.{maxAnnounced, maxText, Entry, Header, Trace, Reading, reading, switchLine, entryLines, headerLines, textOf}
-use Rattle.bench_text.specs.Report.{reportOn, reportOf}
-use Rattle.bench_text.specs.RoundTrip.{OfForm, TooMany, DecidedEarly}
-use Rattle.bench_text.proofs.RoundTrip.{View, read, many, bad, view, many-reads}
+use Rattle.trace_text.specs.Digits.{decimal}
+use Rattle.trace_text.specs.Form.{maxAnnounced, Entry, Header, Trace, Reading, reading, switchLine, entryLines, headerLines, textOf}
+use Rattle.trace_text.specs.RoundTrip.{OfForm, TooMany}
+use Rattle.trace_text.proofs.RoundTrip.{View, read, many, bad, view, many-reads}
+use Rattle.bench_text.specs.Report.{maxText, reportOn, reportOf}
+use Rattle.bench_text.specs.Room.{DecidedEarly}
 use Rattle.bench_text.proofs.Writing.{decimal-short, decimal-four}
 
 switch-length : (seq : Bool) → length (switchLine seq) ≤ 8

@@ -1,13 +1,5 @@
 pub mod DecidedEarly
-pub mod Digits
-pub mod Lines
-pub mod Literal
-pub mod Numbers
 pub mod NumbersFit
-pub mod Reading
 pub mod Reporting
-pub mod RoundTrip
-pub mod Spelling
-pub mod Texts
 pub mod WholeCase
 pub mod Writing

@@ -16,12 +16,12 @@ use Rattle.signals.proofs.Tables.{first-some}
 use Rattle.signals.proofs.Judging.{judges, count-le}
 use Rattle.stream_checker.specs.Rules.{between, breaksHeld, breaksStable, breaksSeq, inOrder, rules}
 use Rattle.stream_checker.specs.Verdicts.{grounds, handshakeAt, clearAt, judgedBelow, answer, checkStream}
-use Rattle.bench_text.specs.Digits.{decimal}
-use Rattle.bench_text.specs.Form as form
-use Rattle.bench_text.specs.Form.{maxAnnounced, Trace, Reading, reading}
+use Rattle.trace_text.specs.Digits.{decimal}
+use Rattle.trace_text.specs.Form as form
+use Rattle.trace_text.specs.Form.{maxAnnounced, Trace, Reading, reading}
+use Rattle.trace_text.proofs.RoundTrip.{means}
 use Rattle.bench_text.specs.Report.{maxReport, ruleBytes, verdictLines, lines, reportOn, reportOf}
-use Rattle.bench_text.specs.RoundTrip.{ReportsFit}
-use Rattle.bench_text.proofs.RoundTrip.{means}
+use Rattle.bench_text.specs.Room.{ReportsFit}
 use Rattle.bench_text.proofs.Writing.{decimal-short, decimal-four, decimal-zero}
 
 -- a rule of the stream's is written in at most three bytes; where the cycle is a clear cycle there is none

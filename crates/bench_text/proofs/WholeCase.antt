@@ -1,8 +1,8 @@
 -- Document 01's whole case, texts that are refused with 9 and with 3, and texts with clear cycles, by computation. Assumes nothing.
 use mathlib.Core.Path.{_≡_, refl}
 use Rattle.stream_checker.specs.Verdicts.{checkStream}
-use Rattle.bench_text.specs.Digits.{bytes, decimal}
-use Rattle.bench_text.specs.Form.{reading}
+use Rattle.trace_text.specs.Digits.{bytes, decimal}
+use Rattle.trace_text.specs.Form.{reading}
 use Rattle.bench_text.specs.Report.{reportOf}
 
 pub whole-case : reportOf (bytes "kind=stream\nseq=off\ncycles=5\nc=0200000000\nc=f100000011\nc=f300000011\nc=f100000012\nc=f300000013\n")

@@ -11,7 +11,7 @@ use borrow.Author.Tests.{le-leb, lt-leb}
 use lib.ListN.{length, drop, take, getD, set, length-append, length-drop, drop-of-length-le}
 use lib.Dec.{leb}
 use lib.Seq.{drop-cons, paste, paste-suc, take-length, take-all, take-at, length-take-le}
-use Rattle.bench_text.specs.Digits.{digitByte, withoutZeros, fixed, decimal}
+use Rattle.trace_text.specs.Digits.{digitByte, withoutZeros, fixed, decimal}
 use Rattle.bench_text.specs.Writing.{Writes, Puts}
 
 -- a turn of the loop that puts bytes

@@ -1,7 +1,4 @@
--- The form of a text, its report and what `report` promises; what the answers mean; and `Places` and `Writing` for the private functions.
-pub mod Digits
-pub mod Form
+-- The report of a text and what `report` promises; the room that a program needs; and `Writing` for the private functions.
 pub mod Report
-pub mod RoundTrip
-pub mod Places
+pub mod Room
 pub mod Writing

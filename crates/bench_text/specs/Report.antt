@@ -10,10 +10,10 @@ use Rattle.signals.specs.Refusals.{refusalOf, accepts}
 use Rattle.signals.specs.Judging.{clean, broken}
 use Rattle.signals.specs.Written.{RuleName, number, seq, align, Written, judged, refused}
 use Rattle.stream_checker.specs.Verdicts.{Answer, checkStream}
+use Rattle.trace_text.specs.Digits.{bytes, decimal}
+use Rattle.trace_text.specs.Form as form
+use Rattle.trace_text.specs.Form.{Reading, reading}
 use Rattle.bench_text.specs.declared.Reported.{Reported}
-use Rattle.bench_text.specs.Digits.{bytes, decimal}
-use Rattle.bench_text.specs.Form as form
-use Rattle.bench_text.specs.Form.{Reading, reading}
 
 abbrev pub ruleBytes : RuleName → List ℕ
 ruleBytes (number n) = decimal n
@@ -45,6 +45,10 @@ verdictLines cycles handshakes clears (refused n) =
 
 abbrev pub lines : (cycles : ℕ) → Answer → List ℕ
 lines cycles a = verdictLines cycles (a .judgement .handshakes) (a .clears) (a .judgement .verdict)
+
+-- how many bytes of a text decide any answer: one more than the longest legal text has
+abbrev pub maxText : ℕ
+maxText = 53281
 
 -- the most bytes that a report has
 abbrev pub maxReport : ℕ

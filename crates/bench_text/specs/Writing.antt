@@ -4,7 +4,7 @@ use Prim.Native.Nat.{ℕ, _+_, _<_}
 use mathlib.Core.List.{List, _++_}
 use mathlib.Core.Path.{_≡_}
 use lib.ListN.{length, take, drop}
-use Rattle.bench_text.specs.Digits.{withoutZeros}
+use Rattle.trace_text.specs.Digits.{withoutZeros}
 
 -- the bytes stand from a place on, with what was before that place, and r is the place after them
 pub record Writes (out : List ℕ) (at : ℕ) (given : List ℕ) (r : ℕ) (exit : List ℕ) : Type 0 where

@@ -1,22 +1,20 @@
 // From the bytes of a bench text to the bytes of its report.
 //
-// Writes out "Bench text" of document 01, with request T-09. `specs/Form.antt` is the form of a text, `specs/Report.antt` that of
-// a report.
-mod parse;
+// Writes out the report of "Bench text" of document 01, with request T-09, over the trace that `trace_text` reads. `specs/Report.antt`
+// is the form of a report.
 mod write;
 
-use parse::MAX_ANNOUNCED;
-use parse::Parsed;
-use parse::parse;
 use signals::Outcome;
 use stream_checker::check_stream;
+use trace_text::MAX_ANNOUNCED;
+use trace_text::Parsed;
+use trace_text::parse;
 use write::ROOM;
 use write::checked_lines;
 use write::deliver;
 use write::refused_lines;
 ghost use mathlib.Core.Path.{_≡_};
-ghost use Rattle.bench_text.specs.Form.{maxText};
-ghost use Rattle.bench_text.specs.Report.{maxReport, reportOf, Reports};
+ghost use Rattle.bench_text.specs.Report.{maxText, maxReport, reportOf, Reports};
 ghost use Rattle.bench_text.specs.Writing.{Writes};
 
 // How many bytes of a text decide any answer: one more than the longest legal text has.

@@ -13,7 +13,7 @@ ghost use lib.ListN.{length};
 ghost use Rattle.signals.specs.Refusals.{numberOf};
 ghost use Rattle.signals.specs.Written.{refused};
 ghost use Rattle.stream_checker.specs.Written.{written};
-ghost use Rattle.bench_text.specs.Digits.{digitByte, fixed, decimal};
+ghost use Rattle.trace_text.specs.Digits.{digitByte, fixed, decimal};
 ghost use Rattle.bench_text.specs.Report as spec;
 ghost use Rattle.bench_text.specs.Report.{sevenLines, verdictLines, lines, Delivers};
 ghost use Rattle.bench_text.specs.Writing.{Writes, Puts, FirstDigit};

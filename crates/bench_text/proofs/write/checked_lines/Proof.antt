@@ -1,6 +1,6 @@
 -- `bench_text::write::checked_lines` meets its contract: each verdict's lines are the definition's. Assumes nothing.
 use borrow.Author.Needs.{needs}
-use Rattle.bench_text.specs.Digits.{decimal}
+use Rattle.trace_text.specs.Digits.{decimal}
 use Rattle.bench_text.proofs.write.checked_lines.Statement.{statement}
 use Rattle.bench_text.proofs.write.checked_lines.Tie as tie
 

@@ -4,7 +4,7 @@ use mathlib.Core.Path.{_≡_, refl}
 use Prim.Native.Nat.{_<_, _-_}
 use native.Mathlib.Omega.{arith}
 use lib.ListN.{length, drop}
-use Rattle.bench_text.specs.Digits.{withoutZeros}
+use Rattle.trace_text.specs.Digits.{withoutZeros}
 use Rattle.bench_text.proofs.Writing.{zeros-skip, zeros-stop, zeros-last}
 use Rattle.bench_text.proofs.write.first_digit.Statement.{statement}
 use Rattle.bench_text.proofs.write.first_digit.Tie as tie

@@ -2,7 +2,7 @@
 use mathlib.Core.Path.{ap, _∙_}
 use borrow.Author.Needs.{needs}
 use Rattle.signals.specs.Refusals.{numberOf}
-use Rattle.bench_text.specs.Digits.{fixed}
+use Rattle.trace_text.specs.Digits.{fixed}
 use Rattle.bench_text.proofs.Writing.{digits-left}
 use Rattle.bench_text.proofs.write.refused_lines.Statement.{statement}
 use Rattle.bench_text.proofs.write.refused_lines.Tie as tie
