@@ -135,13 +135,13 @@ impl Chain {
     pub fn delivery_time(self, i: usize) -> DeliveryTime
         ensures { λ r. ⌜ Times self i r ⌝ }
     {
-        if self.is_well() {
-            return self.time_of(i);
+        if !self.is_well() {
+            return DeliveryTime {
+                outcome: Outcome::Refused(Refusal::BadState),
+                cycles: 0,
+            };
         }
-        DeliveryTime {
-            outcome: Outcome::Refused(Refusal::BadState),
-            cycles: 0,
-        }
+        self.time_of(i)
     }
 
     // A refused step: it shows nothing, and leaves this chain.

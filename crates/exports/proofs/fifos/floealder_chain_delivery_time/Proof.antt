@@ -1,5 +1,8 @@
 -- `floealder_chain_delivery_time` meets its contract: it gives what `Chain::delivery_time` ensures, in numbers. Assumes nothing.
+use Prim.Native.Nat.{ℕ}
+use mathlib.Core.Path.{ap}
 use borrow.Author.Needs.{needs}
+use Rattle.exports.specs.declared.fifos.ChainDeliveryTime.{ChainDeliveryTime}
 use Rattle.exports.proofs.fifos.floealder_chain_delivery_time.Statement.{statement}
 use Rattle.exports.proofs.fifos.floealder_chain_delivery_time.Tie as tie
 
@@ -12,7 +15,11 @@ refusal-requires c κs = search needs
 returns : tie.Need-returns
 returns c =
     let time = c .before .delivery-time in
-    record { answer = time .result; promised = time .ensures; same = rw (c .refusal .ensures) }
+    record {
+      answer = time .result;
+      promised = time .ensures;
+      same = ap {B = ChainDeliveryTime} (λ (n : ℕ). record { refusal = n; cycles = time .result .cycles }) (c .refusal .ensures);
+    }
 
 pub floealder-chain-delivery-time-spec : {M : Type 1} → statement M
 floealder-chain-delivery-time-spec = tie.close (tie.spec delivery-time-requires refusal-requires returns)
