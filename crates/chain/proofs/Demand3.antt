@@ -63,9 +63,9 @@ session-shows-outlet l given v (d ∷ ds) s =
     ∙ sym (trace-append (l .line) (cyclesOf d) (cyclesIn ds))
 
 -- Places that `Chain::new` accepts: one at least, each of capacity at least 2.
-record Legal (places : List Place) : Type 0 where
-  count : 1 ≤ length places
-  room : CapacityAtLeast2 (map empty places)
+pub record Legal (places : List Place) : Type 0 where
+  pub count : 1 ≤ length places
+  pub room : CapacityAtLeast2 (map empty places)
 
 legal-room : (places : List Place) → anyOf (λ place. not (legalPlace place)) places ≡ false → CapacityAtLeast2 (map empty places)
 legal-room [] h = tt
@@ -73,7 +73,7 @@ legal-room (p ∷ ps) h =
     let e = neither (not (legalPlace p)) (anyOf (λ place. not (legalPlace place)) ps) h in
     (capacity-least p (not-false (legalPlace p) (e .0)), legal-room ps (e .1))
 
-new-legal : (places : List Place) → firstOf (newGrounds places) ≡ none → Legal places
+pub new-legal : (places : List Place) → firstOf (newGrounds places) ≡ none → Legal places
 new-legal places e =
     let t = none-keeps (newGrounds places) e in
     record {

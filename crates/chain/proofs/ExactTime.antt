@@ -28,13 +28,14 @@ use Rattle.chain.specs.Cycles.{Cycle}
 use Rattle.chain.specs.Calls.{Value, well, isWell, queues}
 use Rattle.chain.specs.Timing.{deliveryTime, Timing, timing}
 use Rattle.chain.specs.Promises.{value, timed}
-use Rattle.chain.specs.Demand3.{Ledger, entered, enteredAll, readies, NoClear, Begins}
-use Rattle.chain.specs.ExactTime.{Drains, Delivers, Claim, ArrivalsAlterNothing, AnswerIsTime}
+use Rattle.chain.specs.Demand3.{Ledger, opened, entered, enteredAll, readies, NoClear, Begins}
+use Rattle.chain.specs.ExactTime.{Drains, Delivers, DeliveredAt, Claim, FromEmpty, ArrivalsAlterNothing, AnswerIsTime}
 use Rattle.chain.proofs.Used.{formed, from-start}
 use Rattle.chain.proofs.Walk.{wells-of-line}
 use Rattle.chain.proofs.Need.{count, need, by-size, need-zero, Falls}
 use Rattle.chain.proofs.Timing.{need-time}
-use Rattle.chain.proofs.Ledger.{Sound, sound-entered, sound-all, gone, gone-one, gone-delivered, others-held, others-need, stretch-delivers, accepted-grows}
+use Rattle.chain.proofs.Ledger.{Sound, sound-entered, sound-all, sound-opened, gone, gone-one, gone-delivered, others-held, others-need, stretch-delivers, accepted-grows}
+use Rattle.chain.proofs.Demand3.{new-legal}
 
 -- Cycles that drain: they have no clear, the sink is ready in each, and their first n drain.
 drains-no-clear : (cs : List Cycle) → Drains cs → NoClear cs
@@ -97,8 +98,7 @@ delivered-first k l cs s d m h e =
     more = accepted-grows l cs (drains-no-clear cs d)
 
 -- The claim of a ledger whose order is kept.
-sound-time : (k : ℕ) (l : Ledger) → Sound k l → (i : ℕ) → i < count (l .line) → (cs : List Cycle) → Drains cs →
-    deliveryTime (l .line) i + 1 ≤ length cs → (n : ℕ) → Delivers l cs n i ↔ (n ≡ deliveryTime (l .line) i)
+sound-time : (k : ℕ) (l : Ledger) → Sound k l → (i : ℕ) → i < count (l .line) → DeliveredAt l i (deliveryTime (l .line) i)
 sound-time k l s i held cs d enough n = (is-time, at-time)
   where
     time : ℕ
@@ -166,6 +166,13 @@ exact-time l room i held cs d enough n =
 
     given-delivers : Delivers kept cs n i → Delivers l cs n i
     given-delivers e = record { before = same n ∙ e .before; after = same (n + 1) ∙ e .after }
+
+pub from-empty : FromEmpty
+from-empty places accepted past i held =
+    exact-time (enteredAll (opened places) past)
+    (sound-all (length places) (opened places) past (sound-opened places (new-legal places accepted .room)) .room)
+    i
+    held
 
 pub arrivals-alter-nothing : ArrivalsAlterNothing
 arrivals-alter-nothing l room i held cs ds c d long-c long-d n =

@@ -19,7 +19,6 @@ use Rattle.signals.proofs.Bools.{both, neither}
 use Rattle.signals.proofs.Tables.{none-keeps}
 use Rattle.chain.specs.declared.Chain.{Chain}
 use Rattle.chain.specs.declared.Stepped.{Stepped}
-use Rattle.chain.specs.declared.DeliveryTime.{DeliveryTime}
 use Rattle.chain.specs.Line.{heldIn}
 use Rattle.chain.specs.Cycles.{afterAll}
 use Rattle.chain.specs.Calls.{well, isWell, queues, Stepping, grounds, stepGrounds, runGrounds, asked, accepted, refused, answerBy, backBy}

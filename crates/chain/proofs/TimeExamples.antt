@@ -1,12 +1,11 @@
 -- The exact delivery time at work on lines of three FIFOs: one payload at the mouth, a full line, and one with a gap, which is also run;
 -- what it says of a chain that a call gave back; and a line with capacity 1, where it fails. Everything computes from the definitions.
 -- Assumes nothing.
-use Prim.Native.Nat.{ℕ, _+_, _≤_}
+use Prim.Native.Nat.{ℕ}
 use native.Mathlib.Omega.{arith}
-use mathlib.Core.Bool.{true, false}
-use mathlib.Core.List.{List, [], _∷_, _++_, map}
+use mathlib.Core.Bool.{true}
+use mathlib.Core.List.{List, [], _∷_, map}
 use mathlib.Core.Path.{_≡_, refl}
-use lib.ListN.{length}
 use Rattle.signals.specs.declared.Outcome.the-variants.{Accepted}
 use Rattle.fifo.specs.Queue.{Queue, plain, earlyStall}
 use Rattle.chain.specs.declared.DeliveryTime.{DeliveryTime}
@@ -15,7 +14,7 @@ use Rattle.chain.specs.Cycles.{Cycle}
 use Rattle.chain.specs.Timing.{deliveryTime}
 use Rattle.chain.specs.Promises.{Times}
 use Rattle.chain.specs.Demand3.{Ledger, enteredAll}
-use Rattle.chain.specs.ExactTime.{Drains, Delivers}
+use Rattle.chain.specs.ExactTime.{Delivers}
 use Rattle.chain.proofs.ExactTime.{exact-time, answer-is-time}
 use Rattle.chain.proofs.Examples.{word, offering, idle, narrow, nine, chainOf, nine-value}
 

@@ -12,7 +12,7 @@ use Rattle.fifo.specs.Queue.{Queue}
 use Rattle.chain.specs.Line.{heldIn}
 use Rattle.chain.specs.Calls.{Value, isWell, queues}
 
--- the FIFO that holds payload j: the mouth's is 1, unless a FIFO behind it holds j
+-- the number of the FIFO that holds payload j: the mouth's, which is 1, unless those behind it hold j
 abbrev pub fifoHolding : List Queue → (j : ℕ) → ℕ
 fifoHolding [] j = 0
 fifoHolding (q ∷ qs) j = cond (ltb j (length (heldIn qs))) (fifoHolding qs j + 1) 1

@@ -1,6 +1,6 @@
 -- What a FIFO that has its form holds: as many as it says, at most its capacity, at a legal place. Assumes nothing.
 use mathlib.Core.Bool.{true}
-use mathlib.Core.Path.{_≡_, sym, ap, subst, _∙_}
+use mathlib.Core.Path.{_≡_, ap, subst}
 use Prim.Native.Nat.{_≤_}
 use lib.ListN.{length}
 use Rattle.fifo.specs.declared.Fifo.{Fifo}

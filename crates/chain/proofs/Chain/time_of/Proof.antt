@@ -1,8 +1,8 @@
 -- `Chain::time_of` meets its contract: the FIFOs from `left` on have been passed (`Passed`), and each turn passes one more or finds the
 -- payload there. Assumes nothing.
-use mathlib.Core.List.{[], _∷_}
+use mathlib.Core.List.{[]}
 use mathlib.Core.Logic.{⊎-elim}
-use mathlib.Core.Path.{_≡_, refl, sym, ap, subst, _∙_}
+use mathlib.Core.Path.{_≡_, sym, ap, subst, _∙_}
 use Prim.Native.Nat.{_+_, _-_, _*_, _≤_, _<_, max}
 use native.Mathlib.Omega.{arith}
 use borrow.Author.Needs.{needs}
