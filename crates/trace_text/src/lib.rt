@@ -270,13 +270,13 @@ fn cycle_lines(
     }
 }
 
-// A whole text. The trace is written into two arrays that hold the longest.
+// A whole text. The trace is written into two arrays that hold the longest; they are left as they were where the text is refused.
 pub fn parse(
     text: &[u8],
     control: &mut [u8; MAX_ANNOUNCED],
     words: &mut [u32; MAX_ANNOUNCED],
 ) -> Parsed
-    ensures { λ r. ⌜ Parses (now (text .entry)) r (now (control .exit)) (now (words .exit)) ⌝ }
+    ensures { λ r. ⌜ Parses (now (text .entry)) (now (control .entry)) (now (words .entry)) r (now (control .exit)) (now (words .exit)) ⌝ }
 {
     match header(text) {
         Headed::Good { seq, cycles, next } => {
@@ -284,7 +284,22 @@ pub fn parse(
             if MAX_ANNOUNCED < count {
                 return Parsed::Refused(Refusal::TooLong);
             }
-            cycle_lines(text, next, seq, count, control, words)
+            let mut read_control = [0u8; MAX_ANNOUNCED];
+            let mut read_words = [0u32; MAX_ANNOUNCED];
+            match cycle_lines(text, next, seq, count, &mut read_control, &mut read_words) {
+                Parsed::Trace {
+                    seq: on,
+                    cycles: read,
+                } => {
+                    *control = read_control;
+                    *words = read_words;
+                    Parsed::Trace {
+                        seq: on,
+                        cycles: read,
+                    }
+                }
+                Parsed::Refused(why) => Parsed::Refused(why),
+            }
         }
         Headed::Bad => Parsed::Refused(Refusal::BadText),
     }
