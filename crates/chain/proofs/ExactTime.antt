@@ -54,9 +54,9 @@ drains-take (suc n) (c ∷ cs) d = (d .0, drains-take n cs (d .1))
 -- The m payloads nearest the outlet are not delivered sooner than they need.
 not-sooner : (k : ℕ) (l : Ledger) (m : ℕ) (cs : List Cycle) → Sound k l → m ≤ count (l .line) → Drains cs →
     length (l .delivered) + m ≤ length (enteredAll l cs .delivered) → need (l .line) m ≤ length cs
-not-sooner k l m [] s h d delivered = let none : m ≡ 0 = omega arith in omega (arith, ap (need (l .line)) none, need-zero (l .line))
+not-sooner k l m [] s h d delivered = omega (arith, need-zero (l .line) m (omega arith))
 not-sooner k l m (c ∷ cs) s h d delivered = by-size m 0
-    (λ none. let e : m ≡ 0 = omega arith in omega (arith, ap (need (l .line)) e, need-zero (l .line)))
+    (λ none. omega (arith, need-zero (l .line) m none))
     (λ some.
     omega (
       arith,

@@ -44,9 +44,9 @@ pub need-mouth : (q : Queue) (qs : List Queue) (m : ℕ) → count qs < m →
 need-mouth q qs m h = rw (lt-leb m (count qs) h)
 
 -- none need nothing
-pub need-zero : (qs : List Queue) → need qs 0 ≡ 0
-need-zero [] = refl
-need-zero (q ∷ qs) = need-ahead q qs 0 (omega arith) ∙ need-zero qs
+pub need-zero : (qs : List Queue) (m : ℕ) → m ≤ 0 → need qs m ≡ 0
+need-zero [] m h = refl
+need-zero (q ∷ qs) m h = need-ahead q qs m (omega arith) ∙ need-zero qs m h
 
 -- The bound: the payloads up to it, and the FIFOs but one.
 pub need-bound : (qs : List Queue) (m : ℕ) → need qs m ≤ m + (length qs - 1)

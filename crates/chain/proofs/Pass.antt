@@ -16,7 +16,7 @@ use Rattle.chain.specs.Calls.{queues, maxFifos}
 use Rattle.chain.specs.Promises.{value}
 use Rattle.chain.specs.Timing.{deliveryTime}
 use Rattle.chain.proofs.Used.{Formed}
-use Rattle.chain.proofs.Walk.{row-length, row-at}
+use Rattle.chain.proofs.Walk.{queues-length, queue-at}
 use Rattle.chain.proofs.Need.{count, need, need-ahead, need-mouth, need-bound, count-mouth}
 use Rattle.chain.proofs.Timing.{need-time}
 
@@ -96,14 +96,14 @@ pub next-fifo : (chain : Chain) → Formed chain → length (chain .fifos) ≡ m
 next-fifo chain f wide left held d some inside counted =
     let row = queues (value chain) in
     let q = getD row (left - 1) (empty (plain 2)) in
-    let at = row-at chain f wide (left - 1) d (empty (plain 2)) (omega arith) in
+    let at = queue-at chain f wide (left - 1) d (empty (plain 2)) (omega arith) in
     let has : held ≡ length (q .held) = counted ∙ held-of-value _ q at in
     let h = held-within _ q at in
     let on : suc (left - 1) ≡ left = omega arith in
     record {
       fifo = q;
       stands =
-          drop-cons row (left - 1) (empty (plain 2)) (omega (arith, row-length chain f wide))
+          drop-cons row (left - 1) (empty (plain 2)) (omega (arith, queues-length chain f wide))
           ∙ ap (λ (n : ℕ). q ∷ drop n row) on;
       has = has;
       most = omega (arith, has, h .within, capacity-most (q .place), depth-most (q .place) (h .place));

@@ -37,6 +37,7 @@ wells-of-line (queue.well q ∷ vs) qs e = by-rest (lineOf vs) (wells-of-line vs
     by-rest ill wells r e = absurd (clash cc)
     by-rest (well rs) wells r e = let same : q ∷ rs ≡ qs = cc in rw (← same) (ap (λ (l : List queue.Value). queue.well q ∷ l) (wells rs r))
 
+-- the value at a place of such a row
 pub well-at : (qs : List Queue) (j : ℕ) (d : Queue) → j < length qs → getD (map queue.well qs) j queue.ill ≡ queue.well (getD qs j d)
 well-at [] j d h = absurd (omega arith)
 well-at (q ∷ qs) zero d h = refl
@@ -119,17 +120,17 @@ module _ (chain : Chain) (f : Formed chain) (wide : length (chain .fifos) ≡ ma
   used-wells : valuesFrom (chain .fifos) 0 (chain .count) ≡ map queue.well (queues (value chain))
   used-wells = wells-of-line _ _ (f .row)
 
-  pub row-length : length (queues (value chain)) ≡ chain .count
-  row-length =
+  pub queues-length : length (queues (value chain)) ≡ chain .count
+  queues-length =
       sym (ap length used-wells ∙ length-map (queues (value chain)) queue.well)
       ∙ used-length (chain .fifos) (chain .count) (omega (arith, f .most))
 
-  pub row-at : (j : ℕ) (d : Fifo) (e : Queue) → j < chain .count
+  pub queue-at : (j : ℕ) (d : Fifo) (e : Queue) → j < chain .count
       → fifo.value (getD (chain .fifos) j d) ≡ queue.well (getD (queues (value chain)) j e)
-  row-at j d e h =
+  queue-at j d e h =
       sym (used-at (chain .fifos) (chain .count) j d h (omega (arith, f .most)))
       ∙ ap (λ (vs : List queue.Value). getD vs j queue.ill) used-wells
-      ∙ well-at (queues (value chain)) j e (omega (arith, row-length))
+      ∙ well-at (queues (value chain)) j e (omega (arith, queues-length))
 
 -- so far in a cycle: what is served is as the rule leaves it, and the rest of the row, fed with what is handed on, makes the rule's row and
 -- outlet

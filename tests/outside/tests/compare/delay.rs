@@ -93,18 +93,22 @@ fn late(capacities: &[usize]) -> Vec<(usize, usize)> {
     latest.into_iter().filter(is_late).collect()
 }
 
+/// The capacities of every line of one to `most` FIFOs, each of capacity 2 to 4.
+pub fn short_lines(most: usize) -> Vec<Vec<usize>> {
+    let longer = |line: &Vec<usize>| [2, 3, 4].map(|capacity| [&line[..], &[capacity]].concat());
+    let mut lines = vec![vec![Vec::new()]];
+    for length in 0..most {
+        lines.push(lines[length].iter().flat_map(longer).collect());
+    }
+    lines.split_off(1).concat()
+}
+
 #[test]
 fn capacities_from_2_keep_the_bound() {
-    let mut lines: Vec<Vec<usize>> = vec![Vec::new()];
-    for _ in 0..3 {
-        let longer =
-            |line: &Vec<usize>| [2, 3, 4].map(|capacity| [&line[..], &[capacity]].concat());
-        lines = lines.iter().flat_map(longer).collect();
-        for line in &lines {
-            assert_eq!(late(line), [], "{line:?}");
-            // With nothing held the payload takes a cycle for each FIFO, so that no smaller bound would do.
-            assert_eq!(latest(line)[&0], line.len(), "{line:?}");
-        }
+    for line in short_lines(3) {
+        assert_eq!(late(&line), [], "{line:?}");
+        // With nothing held the payload takes a cycle for each FIFO, so that no smaller bound would do.
+        assert_eq!(latest(&line)[&0], line.len(), "{line:?}");
     }
 }
 

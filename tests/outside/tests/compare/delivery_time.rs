@@ -2,7 +2,7 @@
 //! hand back, and the request's formula against running it, over every content of short lines.
 
 use crate::chain::{compare_run, compare_step, mix, offered};
-use crate::delay::place_of;
+use crate::delay::{place_of, short_lines};
 use outside::answers::{Chain, DeliveryTime, Payload, Place, MAX_DEPTH, MAX_FIFOS};
 use outside::models::chain::{self, time_by_formula, time_by_running, Line};
 use outside::models::fifo::{capacity, Stage, NOTHING};
@@ -221,14 +221,8 @@ fn mistimed(capacities: &[usize]) -> usize {
 
 #[test]
 fn capacities_from_2_keep_the_formula() {
-    let mut lines: Vec<Vec<usize>> = vec![Vec::new()];
-    for _ in 0..4 {
-        let longer =
-            |line: &Vec<usize>| [2, 3, 4].map(|capacity| [&line[..], &[capacity]].concat());
-        lines = lines.iter().flat_map(longer).collect();
-        for line in &lines {
-            assert_eq!(mistimed(line), 0, "{line:?}");
-        }
+    for line in short_lines(4) {
+        assert_eq!(mistimed(&line), 0, "{line:?}");
     }
 }
 

@@ -14,7 +14,7 @@ use Rattle.chain.specs.Calls.{queues, maxFifos}
 use Rattle.chain.specs.Timing.{deliveryTime}
 use Rattle.chain.specs.Promises.{value}
 use Rattle.chain.proofs.Used.{formed}
-use Rattle.chain.proofs.Walk.{row-length}
+use Rattle.chain.proofs.Walk.{queues-length}
 use Rattle.chain.proofs.Need.{count}
 use Rattle.chain.proofs.Timing.{count-dropped, time-dropped}
 use Rattle.chain.proofs.Pass.{Passed, passed-none, busy-bound, passes-empty, passes-some, finds-held, finds-time, Next, next-fifo}
@@ -38,7 +38,7 @@ loop-holds c =
     let chain = start .args .t1 in
     let wide = c .has-all .ensures in
     let none : drop (chain .count) (queues (value chain)) ≡ [] =
-    drop-of-length-le (queues (value chain)) {i = chain .count} (omega (arith, row-length chain (formed chain (start .pre)) wide)) in
+    drop-of-length-le (queues (value chain)) {i = chain .count} (omega (arith, queues-length chain (formed chain (start .pre)) wide)) in
     (subst (λ qs. Passed qs (start .args .i) 0 0 0) (sym none) (passed-none (start .args .i)), (omega arith, wide))
 
 sub-left : tie.Need-sub-left Inv-loop μ-loop
