@@ -17,10 +17,11 @@ use Rattle.signals.proofs.Tables.{none-keeps}
 use Rattle.fifo.specs.declared.Place.{Place}
 use Rattle.fifo.specs.Queue.{empty, legalPlace}
 use Rattle.fifo.proofs.Depths.{capacity-least}
+use Rattle.places.specs.Listing.{legalCount}
 use Rattle.chain.specs.declared.Chain.{Chain}
 use Rattle.chain.specs.Line.{CapacityAtLeast2}
 use Rattle.chain.specs.Cycles.{Cycle, outletTrace}
-use Rattle.chain.specs.Calls.{Call, well, grounds, asked, backBy, answer, newGrounds, legalCount}
+use Rattle.chain.specs.Calls.{Call, well, grounds, asked, backBy, answer, newGrounds}
 use Rattle.chain.specs.Promises.{value, Done, Promised}
 use Rattle.chain.specs.Demand3.{Ledger, opened, enteredAll, Session, cyclesBy, cyclesOf, cyclesIn, outletOf, outletsIn, refusalIn, Ruled, Demand3, Claim}
 use Rattle.chain.proofs.Ledger.{Sound, sound-all, sound-opened, stretch-delivers-accepted, clear-drops-held, entered-append, entered-after}

@@ -22,12 +22,13 @@ use Rattle.fifo.specs.declared.NewFifo.{NewFifo}
 use Rattle.fifo.specs.Queue as queue
 use Rattle.fifo.specs.Queue.{empty, plain, legalPlace}
 use Rattle.fifo.specs.Promises as fifo
+use Rattle.places.specs.Listing.{maxFifos, legalCount, placesOf}
 use Rattle.chain.specs.declared.Chain.{Chain}
-use Rattle.chain.specs.declared.Places.{Places}
+use Rattle.places.specs.declared.Places.{Places}
 use Rattle.chain.specs.declared.NewChain.{NewChain}
-use Rattle.chain.specs.Calls.{well, maxFifos, legalCount}
-use Rattle.chain.specs.Promises.{lineOf, value, placesOf, Made}
-use Rattle.chain.specs.Listing.{Lists}
+use Rattle.chain.specs.Calls.{well}
+use Rattle.chain.specs.Promises.{lineOf, value, Made}
+use Rattle.places.specs.Listing.{Lists}
 use Rattle.chain.proofs.Used.{valuesBelow, valuesFrom, from-start, below-set, row-value}
 use Rattle.chain.proofs.Walk.{line-of-wells}
 

@@ -16,8 +16,9 @@ use Rattle.fifo.specs.Queue.{Queue, maxDepth}
 use Rattle.fifo.specs.Promises as fifo
 use Rattle.fifo.specs.Promises.{LaysIn}
 use Rattle.fifo.proofs.Lending.{lays-value, gathers-value}
+use Rattle.places.specs.Listing.{maxFifos, legalCount}
 use Rattle.chain.specs.declared.Chain.{Chain}
-use Rattle.chain.specs.Calls.{well, isWell, maxFifos, legalCount}
+use Rattle.chain.specs.Calls.{well, isWell}
 use Rattle.chain.specs.Promises.{lineOf, value}
 use Rattle.chain.specs.Cycling.{valuesIn, lineIn, Roomy}
 use Rattle.chain.proofs.Used.{valuesBelow, valuesFrom, from-start, below-set, value-used, well-row, formed}

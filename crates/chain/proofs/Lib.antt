@@ -5,8 +5,6 @@ pub mod Parts
 pub mod Row
 pub mod Laying
 pub mod Promising
-pub mod Reading
-pub mod Passing
 pub mod Filling
 pub mod Bytes
 pub mod Tracing

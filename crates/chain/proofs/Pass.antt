@@ -11,8 +11,9 @@ use Rattle.fifo.specs.Queue.{Queue, queueIn, plain, empty, maxDepth}
 use Rattle.fifo.specs.Promises as fifo
 use Rattle.fifo.proofs.Depths.{depth-most, capacity-most}
 use Rattle.fifo.proofs.Held.{held-of-value, held-within}
+use Rattle.places.specs.Listing.{maxFifos}
 use Rattle.chain.specs.declared.Chain.{Chain}
-use Rattle.chain.specs.Calls.{queues, maxFifos}
+use Rattle.chain.specs.Calls.{queues}
 use Rattle.chain.specs.Promises.{value}
 use Rattle.chain.specs.Timing.{deliveryTime}
 use Rattle.chain.proofs.Used.{Formed}

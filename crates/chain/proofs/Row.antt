@@ -12,8 +12,8 @@ use Rattle.fifo.specs.Queue as queue
 use Rattle.fifo.specs.Queue.{Queue, readyOf, maxDepth}
 use Rattle.fifo.specs.Promises as fifo
 use Rattle.fifo.proofs.Lending.{ready-in}
+use Rattle.places.specs.Listing.{maxFifos}
 use Rattle.chain.specs.Line.{mouth}
-use Rattle.chain.specs.Calls.{maxFifos}
 use Rattle.chain.specs.Cycling.{valuesIn, Roomy}
 use Rattle.chain.proofs.Parts.{stored-length, values-length, value-at, values-stored}
 use Rattle.chain.proofs.Walk.{front, mouth-ready}

@@ -16,8 +16,9 @@ use Rattle.signals.proofs.Bools.{either, both}
 use Rattle.fifo.specs.declared.Fifo.{Fifo}
 use Rattle.fifo.specs.Queue as queue
 use Rattle.fifo.specs.Promises as fifo
+use Rattle.places.specs.Listing.{maxFifos, legalCount}
 use Rattle.chain.specs.declared.Chain.{Chain}
-use Rattle.chain.specs.Calls.{Value, ill, well, isWell, queues, maxFifos, legalCount}
+use Rattle.chain.specs.Calls.{Value, ill, well, isWell, queues}
 use Rattle.chain.specs.Promises.{lineOf, before, value}
 
 -- the values of the FIFOs before place i, and of those from i up to n

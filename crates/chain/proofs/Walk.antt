@@ -16,9 +16,10 @@ use Rattle.fifo.specs.Queue as queue
 use Rattle.fifo.specs.Queue.{Queue, readyOf, when, isAny, shown, shownAs, next, emptied}
 use Rattle.fifo.specs.Promises as fifo
 use Rattle.fifo.proofs.Stepping.{ready-of-value, shown-offered, Served}
+use Rattle.places.specs.Listing.{maxFifos}
 use Rattle.chain.specs.declared.Chain.{Chain}
 use Rattle.chain.specs.Line.{mouth, cycle, outlet}
-use Rattle.chain.specs.Calls.{Value, ill, well, queues, maxFifos}
+use Rattle.chain.specs.Calls.{Value, ill, well, queues}
 use Rattle.chain.specs.Promises.{lineOf, before, value}
 use Rattle.chain.proofs.Used.{valuesFrom, from-cons, used-length, used-at, Formed}
 

@@ -5,7 +5,7 @@ use mathlib.Core.Bool.{Bool, true, false, cond, not, _&&_, _||_}
 use mathlib.Core.List.{List, [], _∷_, _++_, map}
 use mathlib.Core.Option.{Option, none, some}
 use lib.ListN.{length, drop}
-use lib.Dec.{eqb, leb, ltb}
+use lib.Dec.{eqb, ltb}
 use Rattle.signals.specs.declared.Payload.{Payload}
 use Rattle.signals.specs.Refusals.{accepts, maxCycles, anyOf}
 use Rattle.signals.specs.Payloads.{zeros, legalStrb}
@@ -13,14 +13,8 @@ use Rattle.signals.specs.Stream.{Sample, sample, reservedBit}
 use Rattle.signals.specs.Tables.{Row, _⇐_, firstOf}
 use Rattle.fifo.specs.declared.Place.{Place}
 use Rattle.fifo.specs.Queue.{Queue, empty, plain, legalPlace}
+use Rattle.places.specs.Listing.{legalCount}
 use Rattle.chain.specs.Cycles.{Cycle, readyIn, outletIn, outletTrace, afterAll}
-
--- one to sixteen FIFOs
-abbrev pub maxFifos : ℕ
-maxFifos = 16
-
-abbrev pub legalCount : ℕ → Bool
-legalCount k = leb 1 k && leb k maxFifos
 
 -- A line's value: its FIFOs' values, the mouth's first; or nothing, its form being broken.
 pub data Value : Type 0 where

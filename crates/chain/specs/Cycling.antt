@@ -12,9 +12,10 @@ use Rattle.fifo.specs.declared.Pointers.{Pointers}
 use Rattle.fifo.specs.Queue as queue
 use Rattle.fifo.specs.Queue.{Queue, isAny, shownAs, maxDepth}
 use Rattle.fifo.specs.Promises as fifo
+use Rattle.places.specs.Listing.{maxFifos}
 use Rattle.chain.specs.declared.Stepped.{Stepped}
 use Rattle.chain.specs.Cycles.{Cycle, readyIn, shownIn, after, afterAll, outletTrace}
-use Rattle.chain.specs.Calls.{Value, well, recorded, controlByte, dataWord, writtenOver, maxFifos}
+use Rattle.chain.specs.Calls.{Value, well, recorded, controlByte, dataWord, writtenOver}
 use Rattle.chain.specs.Promises.{lineOf, value}
 
 abbrev pub given : (valid : Bool) → Payload → (sink clear : Bool) → Cycle

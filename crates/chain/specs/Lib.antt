@@ -4,7 +4,6 @@ pub mod Cycles
 pub mod Calls
 pub mod Timing
 pub mod Promises
-pub mod Listing
 pub mod Cycling
 pub mod Demand3
 pub mod ExactTime

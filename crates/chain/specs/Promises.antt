@@ -11,13 +11,13 @@ use Rattle.signals.specs.Tables.{firstOf}
 use Rattle.fifo.specs.declared.Place.{Place}
 use Rattle.fifo.specs.Queue as queue
 use Rattle.fifo.specs.Promises as fifo
+use Rattle.places.specs.Listing.{legalCount}
 use Rattle.chain.specs.declared.Chain.{Chain}
-use Rattle.chain.specs.declared.Places.{Places}
 use Rattle.chain.specs.declared.NewChain.{NewChain}
 use Rattle.chain.specs.declared.Stepped.{Stepped}
 use Rattle.chain.specs.declared.Ran.{Ran}
 use Rattle.chain.specs.declared.DeliveryTime.{DeliveryTime}
-use Rattle.chain.specs.Calls.{Value, ill, well, isWell, legalCount, newGrounds, newLine, Call, step, run, Answer, grounds, answer, back}
+use Rattle.chain.specs.Calls.{Value, ill, well, isWell, newGrounds, newLine, Call, step, run, Answer, grounds, answer, back}
 use Rattle.chain.specs.Timing.{Timing, timing}
 
 -- the values of FIFOs in a row, if all have their form
@@ -33,10 +33,6 @@ lineOf (queue.well q ∷ vs) = before q (lineOf vs)
 -- a chain's value: that of its used FIFOs, in order
 unfoldable pub value : Chain → Value
 value chain = cond (legalCount (chain .count)) (lineOf (map fifo.value (take (chain .count) (chain .fifos)))) ill
-
--- the places that are listed by value; none where their count is not legal, which is refused as an empty list is
-abbrev pub placesOf : Places → List Place
-placesOf places = cond (legalCount (places .count)) (take (places .count) (places .listed)) []
 
 pub record Made (places : List Place) (r : NewChain) : Type 0 where
   pub refusal : refusalOf (r .outcome) ≡ firstOf (newGrounds places)

@@ -5,14 +5,15 @@ ghost use mathlib.Core.List.{[], _∷_};
 ghost use lib.ListN.{take};
 ghost use Rattle.signals.specs.Refusals.{refusalOf, accepts};
 ghost use Rattle.fifo.specs.Queue.{plain, empty};
-ghost use Rattle.chain.specs.Calls.{well, legalCount};
+ghost use Rattle.places.specs.Listing.{legalCount};
+ghost use Rattle.chain.specs.Calls.{well};
 ghost use Rattle.chain.specs.Promises.{value, Made};
 use super::Chain;
-use super::MAX_FIFOS;
 use super::NewChain;
 use fifo::Fifo;
 use fifo::Place;
 use fifo::SMALLEST;
+use places::MAX_FIFOS;
 use signals::Outcome;
 
 pub(crate) fn is_accepted(outcome: Outcome) -> bool

@@ -2,24 +2,19 @@
 ghost use mathlib.Core.Path.{_≡_};
 ghost use mathlib.Core.Bool.{true};
 ghost use lib.ListN.{length};
-ghost use Rattle.chain.specs.Calls.{isWell, maxFifos, legalCount};
+ghost use Rattle.places.specs.Listing.{maxFifos, legalCount};
+ghost use Rattle.chain.specs.Calls.{isWell};
 ghost use Rattle.chain.specs.Promises.{value};
 use super::Chain;
-use super::MAX_FIFOS;
 use fifo::Fifo;
+use places::MAX_FIFOS;
+use places::is_legal_count;
 
 // Says that an array of FIFOs has all of them, which is not known of one that is a field.
 fn every_fifo(fifos: [Fifo; MAX_FIFOS]) -> bool
     ensures { λ r. ⌜ length fifos ≡ maxFifos ⌝ }
 {
     true
-}
-
-// One to the longest.
-pub(crate) fn is_legal_count(count: usize) -> bool
-    ensures { λ r. ⌜ r ≡ legalCount count ⌝ }
-{
-    (1 <= count) & (count <= MAX_FIFOS)
 }
 
 impl Chain {

@@ -3,14 +3,15 @@
 // FIFO j has part j of the words and of the strobes, and each part is as long as the deepest FIFO.
 ghost use mathlib.Core.Path.{_≡_};
 ghost use mathlib.Core.Bool.{true};
-ghost use Rattle.chain.specs.Calls.{isWell, legalCount};
+ghost use Rattle.places.specs.Listing.{legalCount};
+ghost use Rattle.chain.specs.Calls.{isWell};
 ghost use Rattle.chain.specs.Promises.{value};
 ghost use Rattle.chain.specs.Cycling.{Roomy, lineIn};
 use super::Chain;
-use super::MAX_FIFOS;
 use fifo::MAX_DEPTH;
 use fifo::Pointers;
 use fifo::SMALLEST;
+use places::MAX_FIFOS;
 
 // The slots of all parts.
 pub(crate) const SLOTS: usize = MAX_FIFOS * MAX_DEPTH;

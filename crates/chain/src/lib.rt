@@ -7,7 +7,6 @@ mod cycle;
 mod empty;
 mod form;
 mod laid;
-mod lent;
 mod time;
 mod trace;
 
@@ -15,30 +14,24 @@ ghost use mathlib.Core.Path.{_≡_};
 ghost use mathlib.Core.Bool.{false};
 ghost use Rattle.signals.specs.declared.Outcome.the-variants.{Refused};
 ghost use Rattle.signals.specs.Payloads.{zeros};
-ghost use Rattle.chain.specs.Promises.{placesOf, Made, Promised, stepDone, runDone, Times};
+ghost use Rattle.places.specs.Listing.{placesOf};
+ghost use Rattle.chain.specs.Promises.{Made, Promised, stepDone, runDone, Times};
 use empty::is_accepted;
 use fifo::Fifo;
 use fifo::Place;
-use form::is_legal_count;
+use places::MAX_FIFOS;
+use places::Places;
+use places::is_legal_count;
 use signals::MAX_STRB;
 use signals::Outcome;
 use signals::Payload;
 use signals::Refusal;
-
-// The longest chain.
-pub const MAX_FIFOS: usize = 16;
 
 // A chain of FIFOs, document 01's line: the first `count` of them, the mouth's first.
 #[repr(C)]
 pub struct Chain {
     pub count: usize,
     pub fifos: [Fifo; MAX_FIFOS],
-}
-
-// The places of a chain, the mouth's first: the first `count` of them.
-pub struct Places {
-    pub count: usize,
-    pub listed: [Place; MAX_FIFOS],
 }
 
 pub struct NewChain {

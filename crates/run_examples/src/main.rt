@@ -5,14 +5,14 @@
 //
 // The examples that are claims about the definitions are those of the crate `examples`.
 use chain::Chain;
-use chain::MAX_FIFOS;
-use chain::Places;
 use fifo::Fifo;
 use fifo::MAX_DEPTH;
 use fifo::Place;
 use libc::STDOUT_FILENO;
 use monitor::MAX_SEEN;
 use monitor::Monitor;
+use places::MAX_FIFOS;
+use places::Places;
 use signals::MAX_CYCLES;
 use signals::Outcome;
 use signals::Payload;

@@ -12,9 +12,10 @@ use Rattle.fifo.specs.Queue as queue
 use Rattle.fifo.specs.Queue.{Queue, readyOf, when}
 use Rattle.fifo.specs.Promises as fifo
 use Rattle.fifo.proofs.Stepping.{trusted-serves}
+use Rattle.places.specs.Listing.{maxFifos}
 use Rattle.chain.specs.Line.{mouth}
 use Rattle.chain.specs.Cycles.{readyIn}
-use Rattle.chain.specs.Calls.{queues, maxFifos}
+use Rattle.chain.specs.Calls.{queues}
 use Rattle.chain.specs.Promises.{value}
 use Rattle.chain.specs.Cycling.{given}
 use Rattle.chain.proofs.Used.{valuesFrom, used-length, used-at, used-set, formed, row-value}

@@ -8,7 +8,8 @@ use native.Mathlib.Omega.{arith}
 use lib.Dec.{leb}
 use lib.ListN.{length}
 use Rattle.signals.proofs.Bools.{both}
-use Rattle.chain.specs.Calls.{isWell, maxFifos}
+use Rattle.places.specs.Listing.{maxFifos}
+use Rattle.chain.specs.Calls.{isWell}
 use Rattle.chain.specs.Promises.{value, lineOf}
 use Rattle.chain.proofs.Used.{valuesFrom, well-goes, well-stops, well-ends, value-used}
 use Rattle.chain.proofs.Chain.are_well.Statement.{statement}

@@ -9,7 +9,7 @@ use lib.Dec.{leb}
 use lib.ListN.{length, take, length-set}
 use lib.Seq.{length-take-le, getD-take}
 use Rattle.signals.proofs.Bools.{both}
-use Rattle.chain.specs.Calls.{maxFifos, legalCount}
+use Rattle.places.specs.Listing.{maxFifos, legalCount}
 use Rattle.chain.proofs.Filling.{Filling, filling-start, filling-on, filling-stops, filling-ends}
 use Rattle.chain.proofs.Chain.at_each.Statement.{statement}
 use Rattle.chain.proofs.Chain.at_each.Tie as tie

@@ -7,7 +7,7 @@ use borrow.Author.Tests.{leb-true}
 use lib.Dec.{leb}
 use lib.ListN.{length}
 use Rattle.signals.proofs.Bools.{both}
-use Rattle.chain.specs.Calls.{maxFifos}
+use Rattle.places.specs.Listing.{maxFifos}
 use Rattle.chain.proofs.Laying.{Gathering, gathering-start, gathering-on, gathering-end}
 use Rattle.chain.proofs.Chain.gathered.Statement.{statement}
 use Rattle.chain.proofs.Chain.gathered.Tie as tie

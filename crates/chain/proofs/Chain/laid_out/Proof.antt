@@ -4,7 +4,7 @@ use Prim.Native.Nat.{_-_, _≤_, _<_}
 use native.Mathlib.Omega.{arith}
 use mathlib.Core.Path.{refl}
 use borrow.Author.Needs.{needs}
-use Rattle.chain.specs.Calls.{maxFifos}
+use Rattle.places.specs.Listing.{maxFifos}
 use Rattle.chain.proofs.Used.{formed}
 use Rattle.chain.proofs.Laying.{used-well, Laying, laying-start, laying-on, laying-end}
 use Rattle.chain.proofs.Chain.laid_out.Statement.{statement}

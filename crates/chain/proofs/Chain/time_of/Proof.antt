@@ -10,7 +10,8 @@ use borrow.Author.Tests.{le-leb}
 use lib.ListN.{length, drop, drop-of-length-le}
 use Rattle.signals.specs.declared.Refusal.the-variants.{OutOfRange}
 use Rattle.fifo.specs.Queue.{maxDepth}
-use Rattle.chain.specs.Calls.{queues, maxFifos}
+use Rattle.places.specs.Listing.{maxFifos}
+use Rattle.chain.specs.Calls.{queues}
 use Rattle.chain.specs.Timing.{deliveryTime}
 use Rattle.chain.specs.Promises.{value}
 use Rattle.chain.proofs.Used.{formed}

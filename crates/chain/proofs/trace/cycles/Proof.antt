@@ -16,9 +16,10 @@ use Rattle.fifo.specs.Queue as queue
 use Rattle.fifo.specs.Queue.{Queue, when}
 use Rattle.fifo.specs.Promises as fifo
 use Rattle.fifo.proofs.Lending.{serves}
+use Rattle.places.specs.Listing.{maxFifos}
 use Rattle.chain.specs.Line.{mouth}
 use Rattle.chain.specs.Cycles.{offered}
-use Rattle.chain.specs.Calls.{isWell, queues, maxFifos, byteOf, recorded}
+use Rattle.chain.specs.Calls.{isWell, queues, byteOf, recorded}
 use Rattle.chain.specs.Cycling.{lineIn}
 use Rattle.chain.proofs.Used.{well-row}
 use Rattle.chain.proofs.Row.{rowIn, Sits, row-length, row-at, row-ready, row-back, sits-back}

@@ -1,10 +1,10 @@
--- `floealder_chain_new` meets its contract: it is `chain`'s `Passing.antt`'s function over a lent slice, and `Chain::new` and
+-- `floealder_chain_new` meets its contract: it is `places`'s `Passing.antt`'s function over a lent slice, and `Chain::new` and
 -- `new_numbers` its callees. Its MIR computes to that function's, and the answer in numbers is the chain that `Chain::new` makes.
 -- Assumes nothing.
 use mathlib.Core.Path.{_≡_}
 use Rattle.fifo.proofs.Place as S
 use Rattle.chain.specs.Promises.{Made}
-use Rattle.chain.proofs.Passing.{Passing, enters}
+use Rattle.places.proofs.Passing.{Passing, enters}
 use Rattle.chain.proofs.NewChain as N
 use Rattle.chain.proofs.NewChain.Laws as N′
 use Rattle.chain.proofs.Chain.new.Symbol as new

@@ -1,8 +1,8 @@
 -- `Places::blank` meets its contract: the number of places is kept where it is legal. Assumes nothing.
 use borrow.Author.Needs.{needs}
 use mathlib.Core.Path.{sym, _∙_}
-use Rattle.chain.proofs.Places.blank.Statement.{statement}
-use Rattle.chain.proofs.Places.blank.Tie as tie
+use Rattle.places.proofs.Places.blank.Statement.{statement}
+use Rattle.places.proofs.Places.blank.Tie as tie
 
 is-legal-count-requires : tie.Need-is-legal-count-requires
 is-legal-count-requires c κs = search needs

@@ -11,10 +11,11 @@ use lib.Dec.{T as Holds, leb, leb→le}
 use lib.ListN.{length, getD, take, length-set, length-replicate}
 use lib.Seq.{take-suc, take-suc-set}
 use Rattle.fifo.specs.declared.Place.{Place}
-use Rattle.chain.specs.declared.Places.{Places}
+use Rattle.places.specs.declared.Places.{Places}
 use Rattle.fifo.specs.Queue.{plain}
-use Rattle.chain.specs.Calls.{maxFifos, legalCount}
-use Rattle.chain.specs.Listing.{readOff, blank, placed, Lists}
+use Rattle.places.specs.Listing.{maxFifos, legalCount}
+use Rattle.places.specs.Listing.{readOff, Lists}
+use Rattle.places.specs.Blank.{blank, placed}
 
 -- ---- how many places are read
 abbrev pub wanted : List Place → ℕ

@@ -51,25 +51,25 @@ use Rattle.fifo.specs.declared.Place.{Place}
 use Rattle.fifo.specs.Queue as queue
 use Rattle.fifo.proofs.Place as T
 use Rattle.fifo.proofs.Place.Laws as T′
-use Rattle.chain.specs.declared.Places.{Places}
-use Rattle.chain.specs.Calls.{maxFifos}
-use Rattle.chain.specs.Listing.{blank, placed}
-use Rattle.chain.proofs.Reading.{wanted, wanted-in, wanted-few, Reading, reading-start, reading-on, reading-end}
-use Rattle.chain.proofs.Places as P
-use Rattle.chain.proofs.Places.Laws as P′
-use Rattle.chain.proofs.Places.blank as blanks
-use Rattle.chain.proofs.Places.blank.Symbol as blanks-def
-use Rattle.chain.proofs.Places.blank.Symbol.{name as #blank}
-use Rattle.chain.proofs.Places.blank.Met as blanks-thm
-use Rattle.chain.proofs.Places.with as puts
-use Rattle.chain.proofs.Places.with.Symbol as puts-def
-use Rattle.chain.proofs.Places.with.Symbol.{name as #with}
-use Rattle.chain.proofs.Places.with.Met as puts-thm
-use Rattle.chain.proofs.Places.read.Key.{name as #read}
-use Rattle.chain.proofs.Places.read as f
-use Rattle.chain.proofs.Places.read.Statement as stated
-use Rattle.chain.proofs.Places.read.Code as code
-use Rattle.chain.proofs.Places.read.Code.Mir as mir
+use Rattle.places.specs.declared.Places.{Places}
+use Rattle.places.specs.Listing.{maxFifos}
+use Rattle.places.specs.Blank.{blank, placed}
+use Rattle.places.proofs.Reading.{wanted, wanted-in, wanted-few, Reading, reading-start, reading-on, reading-end}
+use Rattle.places.proofs.Places as P
+use Rattle.places.proofs.Places.Laws as P′
+use Rattle.places.proofs.Places.blank as blanks
+use Rattle.places.proofs.Places.blank.Symbol as blanks-def
+use Rattle.places.proofs.Places.blank.Symbol.{name as #blank}
+use Rattle.places.proofs.Places.blank.Met as blanks-thm
+use Rattle.places.proofs.Places.with as puts
+use Rattle.places.proofs.Places.with.Symbol as puts-def
+use Rattle.places.proofs.Places.with.Symbol.{name as #with}
+use Rattle.places.proofs.Places.with.Met as puts-thm
+use Rattle.places.proofs.Places.read.Key.{name as #read}
+use Rattle.places.proofs.Places.read as f
+use Rattle.places.proofs.Places.read.Statement as stated
+use Rattle.places.proofs.Places.read.Code as code
+use Rattle.places.proofs.Places.read.Code.Mir as mir
 
 -- what is had of the slice at exit
 abbrev stayed : Stays (f.ended .signature .params) (f.ended .kept)
@@ -361,5 +361,5 @@ read-spec 𝓤 H 𝓜 𝓖 𝓡 =
     entered 𝓤 H (tripleOf 𝓤 H (𝓖 .A) f.signature (f.spec 𝓤 H (𝓖 .A) (𝓜 .mem) (𝓡 .run)))
     (tables 𝓤 H 𝓜 𝓡 code.env .C) (tables 𝓤 H 𝓜 𝓡 code.env .Λ) #read code.function (code.unfolded 𝓤 H 𝓜 𝓡)
     (meets 𝓤 H (𝓖 .A) (givenOf 𝓤 H 𝓜 𝓖) (𝓜 .mem) (𝓡 .run) (tablesOf 𝓤 H 𝓜 (tables 𝓤 H 𝓜 𝓡 code.env))
-    (cited 𝓤 H (BlankC 𝓤 H (𝓖 .A) (𝓜 .mem) (𝓡 .run)) 𝓜 𝓡 code.env #blank blanks-def.routine code.calls-chain·Places·blank (blanks-thm.met 𝓤 H 𝓜 𝓖 𝓡))
-    (cited 𝓤 H (WithC 𝓤 H (𝓖 .A) (𝓜 .mem) (𝓡 .run)) 𝓜 𝓡 code.env #with puts-def.routine code.calls-chain·Places·with (puts-thm.met 𝓤 H 𝓜 𝓖 𝓡)))
+    (cited 𝓤 H (BlankC 𝓤 H (𝓖 .A) (𝓜 .mem) (𝓡 .run)) 𝓜 𝓡 code.env #blank blanks-def.routine code.calls-places·Places·blank (blanks-thm.met 𝓤 H 𝓜 𝓖 𝓡))
+    (cited 𝓤 H (WithC 𝓤 H (𝓖 .A) (𝓜 .mem) (𝓡 .run)) 𝓜 𝓡 code.env #with puts-def.routine code.calls-places·Places·with (puts-thm.met 𝓤 H 𝓜 𝓖 𝓡)))
