@@ -1,5 +1,5 @@
--- What `Chain::new`, `Chain::at`, `Chain::step`, `Chain::run` and `Chain::delivery_time` promise. FIFOs past the count of a chain that is handed back are free,
--- unless the call was refused. Assumes nothing.
+-- What `Chain::new`, `Chain::at`, `Chain::step`, `Chain::run` and `Chain::delivery_time` promise. FIFOs past the count of a chain that
+-- is handed back are free, unless the call was refused. Assumes nothing.
 use Prim.Native.Nat.{ℕ}
 use mathlib.Core.Bool.{Bool, false, cond}
 use mathlib.Core.List.{List, [], _∷_, map}
