@@ -16,7 +16,7 @@ writes-one made i before out size h e entry =
     rw (e, drop-cons before i 0, set-at made _ _ entry i size, add-one i, append-snoc)
 
 -- as many entries as were asked for
-pub length-entries : (entry : ℕ → ℕ) (n : ℕ) → length (entriesBelow entry n) ≡ n
+pub length-entries : {A : Type 0} (entry : ℕ → A) (n : ℕ) → length (entriesBelow entry n) ≡ n
 length-entries entry zero = refl
 length-entries entry (suc n) = simp (length-append, length-entries entry n) (omega arith)
 

@@ -6,7 +6,8 @@ use mathlib.Core.Path.{_≡_, refl}
 use lib.Dec.{eqb, ltb, leb}
 use borrow.Author.Tests.{eqb-true}
 use Rattle.signals.specs.Payloads.{strobed}
-use Rattle.signals.proofs.Below.{everyBelow, each-below}
+use Rattle.signals.specs.Sequences.{everyBelow}
+use Rattle.signals.proofs.Below.{each-below}
 use Rattle.signals.proofs.Bools.{beq-true}
 use Rattle.strbgen.specs.Plan.{firstStrobe, lastStrobe}
 use Rattle.strbgen.specs.Bytes.{bytesIn}

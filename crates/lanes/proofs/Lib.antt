@@ -1,0 +1,4 @@
+-- Laws of lanes, their strobes, and what is refused.
+pub mod PerLane
+pub mod Digits
+pub mod Answers

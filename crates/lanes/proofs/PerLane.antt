@@ -1,0 +1,77 @@
+-- What stands for each lane: the entries by index, and one turn of a loop that writes them.
+-- Two lists of four are the same where their entries are. Assumes nothing.
+use Prim.Native.Nat.{ℕ, zero, suc, _+_, _<_, _≤_}
+use native.Mathlib.Omega.{arith}
+use mathlib.Core.Bool.{Bool, cond}
+use mathlib.Core.List.{List, [], _∷_}
+use mathlib.Core.Logic.{⊎-elim}
+use mathlib.Core.Path.{_≡_, sym, _∙_, ap, subst}
+use lib.Dec.{ltb}
+use lib.ListN.{length, getD, set, length-set, List·getD-append}
+use lib.Seq.{ext-getD, getD-at, getD-set-same, getD-set-other}
+use borrow.Author.Tests.{ltb-true, ltb-false, lt-ltb, le-ltb}
+use Rattle.signals.proofs.Bools.{either}
+use Rattle.signals.proofs.Writing.{length-entries}
+use Rattle.signals.specs.Sequences.{entriesBelow}
+use Rattle.lanes.specs.Lanes.{maxLanes, perLane}
+
+module _ {A : Type 0} where
+  -- the entry at an index: the last, or one before it
+  pub entry-at : (entry : ℕ → A) (n i : ℕ) (past : A) → i < n → getD (entriesBelow entry n) i past ≡ entry i
+  entry-at entry zero i past h = absurd (omega arith)
+  entry-at entry (suc n) i past h =
+      ⊎-elim
+      (λ t. let less = ltb-true i n t in
+      List·getD-append (entriesBelow entry n) (entry n ∷ []) past i (rw (length-entries entry n) less) ∙ entry-at entry n i past less)
+      (λ f. let last : i ≡ n = omega (arith, ltb-false i n f) in
+      rw last (getD-at (entriesBelow entry n) (entry n) [] past n (length-entries entry n)))
+      (either (ltb i n))
+
+  module _ (nothing : A) (entry : ℕ → A) where
+    -- a lane's own entry, and nothing past the lanes
+    pub lane-entry : (lanes i : ℕ) (past : A) → lanes ≤ maxLanes → i < lanes → getD (perLane lanes nothing entry) i past ≡ entry i
+    lane-entry lanes i past few h =
+        entry-at (λ j. cond (ltb j lanes) (entry j) nothing) maxLanes i past (omega arith)
+        ∙ ap (λ (b : Bool). cond b (entry i) nothing) (lt-ltb i lanes h)
+
+    pub past-entry : (lanes i : ℕ) (past : A) → lanes ≤ i → i < maxLanes → getD (perLane lanes nothing entry) i past ≡ nothing
+    past-entry lanes i past h few =
+        entry-at (λ j. cond (ltb j lanes) (entry j) nothing) maxLanes i past few
+        ∙ ap (λ (b : Bool). cond b (entry i) nothing) (le-ltb i lanes h)
+
+    -- a loop that has written the first i entries writes the next
+    pub writes-lane : (i : ℕ) (made : List A) (x : A) → i < maxLanes → made ≡ perLane i nothing entry → x ≡ entry i →
+        set made i x ≡ perLane (i + 1) nothing entry
+    writes-lane i made x few e f = rw (e, f) (ext-getD nothing _ _ lengths each)
+      where
+        written : List A
+        written = set (perLane i nothing entry) i (entry i)
+
+        lengths : length written ≡ length (perLane (i + 1) nothing entry)
+        lengths = length-set (perLane i nothing entry) i (entry i)
+
+        before : (j : ℕ) → j < i → getD written j nothing ≡ getD (perLane (i + 1) nothing entry) j nothing
+        before j h =
+            getD-set-other (perLane i nothing entry) i j (entry i) nothing (λ q. absurd (omega arith))
+            ∙ lane-entry i j nothing (omega arith) h
+            ∙ sym (lane-entry (i + 1) j nothing (omega arith) (omega arith))
+
+        here : (j : ℕ) → j ≡ i → getD written j nothing ≡ getD (perLane (i + 1) nothing entry) j nothing
+        here j q =
+            rw q
+            (getD-set-same (perLane i nothing entry) i (entry i) nothing few
+            ∙ sym (lane-entry (i + 1) i nothing (omega arith) (omega arith)))
+
+        after : (j : ℕ) → i < j → j < maxLanes → getD written j nothing ≡ getD (perLane (i + 1) nothing entry) j nothing
+        after j h less =
+            getD-set-other (perLane i nothing entry) i j (entry i) nothing (λ q. absurd (omega arith))
+            ∙ past-entry i j nothing (omega arith) less
+            ∙ sym (past-entry (i + 1) j nothing (omega arith) less)
+
+        each : (j : ℕ) → j < length written → getD written j nothing ≡ getD (perLane (i + 1) nothing entry) j nothing
+        each j h =
+            let less : j < maxLanes = subst (λ (k : ℕ). j < k) (length-set (perLane i nothing entry) i (entry i)) h in
+            ⊎-elim
+            (λ t. before j (ltb-true j i t))
+            (λ f. ⊎-elim (λ t. after j (ltb-true i j t) less) (λ g. here j (omega (arith, ltb-false j i f, ltb-false i j g))) (either (ltb i j)))
+            (either (ltb j i))

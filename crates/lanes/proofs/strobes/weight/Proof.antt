@@ -1,0 +1,31 @@
+-- `weight` meets its contract: one test over the whole table, which computes, says that each entry is the power. Assumes nothing.
+use Prim.Native.Nat.{ℕ, _+_, _^_}
+use native.Mathlib.Omega.{arith}
+use mathlib.Core.List.{List, [], _∷_}
+use mathlib.Core.Path.{refl}
+use borrow.Author.Needs.{needs}
+use borrow.Author.Tests.{eqb-true}
+use lib.Dec.{eqb}
+use lib.ListN.{getD}
+use Rattle.signals.proofs.Below.{each-below}
+use Rattle.lanes.specs.Lanes.{maxLanes}
+use Rattle.lanes.proofs.strobes.weight.Statement.{statement}
+use Rattle.lanes.proofs.strobes.weight.Tie as tie
+
+mul-result : tie.Need-mul-result
+mul-result c = search needs
+
+array-read-result : tie.Need-array-read-result
+array-read-result c = search needs
+
+-- the table in the code
+abbrev weights : List ℕ
+weights = 1 ∷ 16 ∷ 256 ∷ 4096 ∷ 65536 ∷ []
+
+returns : tie.Need-returns
+returns c =
+    let i = c .args .i in
+    eqb-true (getD weights i 0) (16 ^ i) (each-below (λ j. eqb (getD weights j 0) (16 ^ j)) (maxLanes + 1) refl i (omega arith))
+
+pub weight-spec : {M : Type 1} → statement M
+weight-spec = tie.close (tie.spec mul-result array-read-result returns)

@@ -1,0 +1,18 @@
+-- What a stream's source offers in one cycle: valid, and a payload that is 0 when valid is 0. Assumes nothing.
+use Prim.Native.Nat.{ℕ}
+use mathlib.Core.Bool.{Bool, true, false, cond}
+use mathlib.Core.List.{List}
+use lib.ListN.{getD}
+use Rattle.signals.specs.declared.Payload.{Payload}
+use Rattle.signals.specs.Payloads.{zeros}
+use Rattle.lanes.specs.declared.Offer.{Offer}
+
+abbrev pub noOffer : Offer
+noOffer = record { valid = false; payload = zeros }
+
+abbrev pub offerWhen : Bool → Payload → Offer
+offerWhen b p = cond b (record { valid = true; payload = p }) noOffer
+
+-- what input i offers, or what branch i is offered
+abbrev pub offerAt : List Offer → ℕ → Offer
+offerAt offers i = getD offers i noOffer
