@@ -8,11 +8,10 @@ use mathlib.Core.List.{List, [], _∷_, _++_, map, nil≢cons, head-eq-of-cons-e
 use mathlib.Core.Path.{_≡_, refl, _∙_, ap, subst₂}
 use mathlib.Core.Logic.{⊎-elim}
 use lib.ListN.{length, length-map}
-use borrow.Author.Tests.{eq-eqb}
 use Rattle.signals.specs.declared.Payload.{Payload}
-use Rattle.signals.specs.Payloads.{samePayload}
 use Rattle.signals.specs.Stream.{Sample, clearCycle}
 use Rattle.signals.proofs.Bools.{either}
+use Rattle.signals.proofs.Payloads.{same-payload}
 use Rattle.fifo.specs.Queue.{Queue, emptied, oldest, ready, shown, next}
 use Rattle.chain.specs.Line.{cycle, outlet}
 use Rattle.chain.specs.Cycles.{Cycle, offered, after, afterAll, sampleOf, outletIn, outletTrace}
@@ -31,9 +30,6 @@ shown-again [] some offer later p ps e = let z : ⊥ = omega arith in absurd z
 shown-again (q ∷ []) some offer later p ps e = join-keeps-oldest (q .held) _ p ps e
 shown-again (q ∷ r ∷ qs) some offer later p ps e =
     shown-again (r ∷ qs) (omega arith) (shown q) (shown (next q offer (ready r))) p ps e
-
-same-payload : (p : Payload) → samePayload p p ≡ true
-same-payload p = rw (eq-eqb (p .«data») (p .«data») refl, eq-eqb (p .strb) (p .strb) refl)
 
 -- the two rules, of what is shown in two cycles
 again-keeps-rules : (sink sink′ : Bool) (shows shows′ : List Payload) →

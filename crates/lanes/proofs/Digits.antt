@@ -1,14 +1,14 @@
 -- Strobes side by side are digits to the base 16: lane i's stay below 16 to the power i + 1, and are found there again.
 -- By induction over the number of lanes, the last apart. Assumes nothing.
 use Prim.Native.Nat.{ℕ, zero, suc, _+_, _-_, _*_, _/_, _%_, _^_, _<_, _≤_}
-use native.Mathlib.Nat.{zero-lt-suc, one-le-pow, pow-suc, mul-assoc, mul-comm, mod-eq-of-lt, mul-add-div-right, mul-add-mod-self-right, lt-of-lt-of-le, pow-le-pow-right}
+use native.Mathlib.Nat.{zero-lt-suc, one-le-pow, pow-suc, mul-assoc, mul-comm, mod-eq-of-lt, mul-add-div-right, mul-add-mod-self-right, lt-of-lt-of-le, pow-le-pow-right, mod-one}
 use native.Mathlib.Numerals.{add-one}
 use native.Mathlib.Omega.{arith}
 use mathlib.Core.Bool.{true}
 use mathlib.Core.List.{List}
 use mathlib.Core.Logic.{⊎-elim}
-use mathlib.Core.Path.{_≡_, sym, _∙_, ap}
-use lib.Arith.{digits-lt, digits-div}
+use mathlib.Core.Path.{_≡_, refl, sym, _∙_, ap, ap₂}
+use lib.Arith.{digits-lt, digits-div, mod-mul}
 use lib.Dec.{ltb}
 use lib.Pow.{pow-add}
 use borrow.Author.Tests.{ltb-true, ltb-false, leb-true}
@@ -17,9 +17,10 @@ use Rattle.signals.specs.Payloads.{maxStrb, legalStrb}
 use Rattle.signals.proofs.Below.{each-below}
 use Rattle.signals.proofs.Bools.{either}
 use Rattle.lanes.specs.declared.Offer.{Offer}
+use Rattle.lanes.specs.declared.Wide.{Wide}
 use Rattle.lanes.specs.Lanes.{maxLanes}
 use Rattle.lanes.specs.Merge.{payloadAt, legalStrobes}
-use Rattle.lanes.specs.Wide.{strobesBelow}
+use Rattle.lanes.specs.Wide.{lane, strobesBelow}
 
 pub pow-pos : (i : ℕ) → 0 < 16 ^ i
 pow-pos i = one-le-pow i 16 (zero-lt-suc 15)
@@ -77,3 +78,16 @@ strobes-small inputs n i few e h =
     lt-of-lt-of-le
     (strobes-fit (payloadAt inputs) i (λ j g. legal-below inputs n e j (omega arith)))
     (pow-le-pow-right {n = 16} (zero-lt-suc 15) {i = i} {j = maxLanes} (omega arith))
+
+-- strobes that agree on the lanes
+pub strobes-alike : (f g : ℕ → Payload) (n : ℕ) → ((i : ℕ) → i < n → f i ≡ g i) → strobesBelow f n ≡ strobesBelow g n
+strobes-alike f g zero same = refl
+strobes-alike f g (suc n) same =
+    ap₂ (λ (p : Payload) (below : ℕ). p .strb * 16 ^ n + below) (same n (omega arith)) (strobes-alike f g n (λ i h. same i (omega arith)))
+
+-- the strobes of a wide payload's lanes are its own, up to so many
+pub strobes-of-lanes : (w : Wide) (n : ℕ) → strobesBelow (lane w) n ≡ w .strb % 16 ^ n
+strobes-of-lanes w zero = sym (mod-one (w .strb))
+strobes-of-lanes w (suc n) =
+    ap (λ (below : ℕ). w .strb / 16 ^ n % 16 * 16 ^ n + below) (strobes-of-lanes w n)
+    ∙ sym (ap (λ (m : ℕ). w .strb % m) (pow-suc 16 n ∙ mul-comm (16 ^ n) 16) ∙ mod-mul (w .strb) (zero-lt-suc 15) (pow-pos n))

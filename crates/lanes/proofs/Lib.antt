@@ -2,3 +2,6 @@
 pub mod PerLane
 pub mod Digits
 pub mod Answers
+pub mod Wired
+pub mod Keeping
+pub mod Waiting

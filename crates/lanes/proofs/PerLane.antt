@@ -5,9 +5,9 @@ use native.Mathlib.Omega.{arith}
 use mathlib.Core.Bool.{Bool, cond}
 use mathlib.Core.List.{List, [], _∷_}
 use mathlib.Core.Logic.{⊎-elim}
-use mathlib.Core.Path.{_≡_, sym, _∙_, ap, subst}
+use mathlib.Core.Path.{_≡_, refl, sym, _∙_, ap, subst}
 use lib.Dec.{ltb}
-use lib.ListN.{length, getD, set, length-set, List·getD-append}
+use lib.ListN.{length, getD, set, length-set, List·getD-append, List·getD-eq-default}
 use lib.Seq.{ext-getD, getD-at, getD-set-same, getD-set-other}
 use borrow.Author.Tests.{ltb-true, ltb-false, lt-ltb, le-ltb}
 use Rattle.signals.proofs.Bools.{either}
@@ -38,6 +38,14 @@ module _ {A : Type 0} where
     past-entry lanes i past h few =
         entry-at (λ j. cond (ltb j lanes) (entry j) nothing) maxLanes i past few
         ∙ ap (λ (b : Bool). cond b (entry i) nothing) (le-ltb i lanes h)
+
+    -- past the lanes, within four and beyond
+    pub no-entry : (lanes i : ℕ) → lanes ≤ i → getD (perLane lanes nothing entry) i nothing ≡ nothing
+    no-entry lanes i h =
+        ⊎-elim
+        (λ t. past-entry lanes i nothing h (ltb-true i maxLanes t))
+        (λ f. List·getD-eq-default (perLane lanes nothing entry) nothing (ltb-false i maxLanes f))
+        (either (ltb i maxLanes))
 
     -- a loop that has written the first i entries writes the next
     pub writes-lane : (i : ℕ) (made : List A) (x : A) → i < maxLanes → made ≡ perLane i nothing entry → x ≡ entry i →
@@ -75,3 +83,16 @@ module _ {A : Type 0} where
             (λ t. before j (ltb-true j i t))
             (λ f. ⊎-elim (λ t. after j (ltb-true i j t) less) (λ g. here j (omega (arith, ltb-false j i f, ltb-false i j g))) (either (ltb i j)))
             (either (ltb j i))
+
+  -- entries that agree on the lanes
+  pub lanes-alike : (nothing : A) (f g : ℕ → A) (lanes : ℕ) → lanes ≤ maxLanes → ((i : ℕ) → i < lanes → f i ≡ g i) →
+      perLane lanes nothing f ≡ perLane lanes nothing g
+  lanes-alike nothing f g lanes few same = ext-getD nothing _ _ refl each
+    where
+      each : (i : ℕ) → i < maxLanes → getD (perLane lanes nothing f) i nothing ≡ getD (perLane lanes nothing g) i nothing
+      each i h =
+          ⊎-elim
+          (λ t. let less = ltb-true i lanes t in
+          lane-entry nothing f lanes i nothing few less ∙ same i less ∙ sym (lane-entry nothing g lanes i nothing few less))
+          (λ e. let past = ltb-false i lanes e in no-entry nothing f lanes i past ∙ sym (no-entry nothing g lanes i past))
+          (either (ltb i lanes))

@@ -5,3 +5,4 @@ pub mod Tables
 pub mod Judging
 pub mod Written
 pub mod Writing
+pub mod Payloads

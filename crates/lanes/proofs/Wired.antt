@@ -1,0 +1,217 @@
+-- Split after merge gives back the payloads and their order. Idea: where a cycle is not refused, an input and its branch both have a
+-- handshake exactly when all inputs are valid and all branches ready, and then the lane is the input's payload; else neither has one.
+-- Assumes nothing.
+use Prim.Native.Nat.{ℕ, _<_, _≤_, _^_}
+use native.Mathlib.Nat.{mod-eq-of-lt}
+use native.Mathlib.Omega.{arith}
+use mathlib.Core.Bool.{Bool, true, false, _&&_}
+use mathlib.Core.List.{List, [], _∷_, _++_}
+use mathlib.Core.Logic.{⊎-elim}
+use mathlib.Core.Path.{_≡_, refl, sym, _∙_, ap, ap₂}
+use lib.Dec.{ltb, leb}
+use lib.ListN.{length, getD}
+use lib.Seq.{ext-getD}
+use borrow.Author.Tests.{ltb-true, ltb-false, leb-true, lt-leb}
+use Rattle.signals.specs.declared.Payload.{Payload}
+use Rattle.signals.specs.Payloads.{maxStrb, legalStrb}
+use Rattle.signals.proofs.Below.{each-below}
+use Rattle.signals.proofs.Bools.{either}
+use Rattle.lanes.specs.declared.Offer.{Offer}
+use Rattle.lanes.specs.declared.Wide.{Wide}
+use Rattle.lanes.specs.Lanes.{maxLanes, legalLanes, perLane}
+use Rattle.lanes.specs.Offers.{noOffer, offerWhen, offerAt}
+use Rattle.lanes.specs.Wide.{lane, together, wideZeros}
+use Rattle.lanes.specs.Merge as ofMerge
+use Rattle.lanes.specs.Merge.{payloadAt, legalStrobes, allValid}
+use Rattle.lanes.specs.Split as ofSplit
+use Rattle.lanes.specs.Split.{readyAt, strobePast, allReady}
+use Rattle.lanes.specs.Wired.{Cycle, handed, fromInput, toBranch, overCycles, SameCycle, SameOrder, Wires, ApartIsEach, TogetherIsWhole}
+use Rattle.lanes.proofs.PerLane.{lane-entry, no-entry, lanes-alike}
+use Rattle.lanes.proofs.Digits.{pow-pos, strobes-fit, strobes-found, strobes-of-lanes, legal-below}
+use Rattle.lanes.proofs.Answers.{lanes-few, merge-accepts, merge-refuses-strobes, merge-refuses-lanes, split-accepts, split-refuses-lanes}
+
+-- ---- of payloads alone
+
+-- one lane, by its data and its strobes
+pub lane-of-together : (lanes : ℕ) (payload : ℕ → Payload) → lanes ≤ maxLanes → ((i : ℕ) → i < lanes → payload i .strb < 16) →
+    (i : ℕ) → i < lanes → lane (together lanes payload) i ≡ payload i
+lane-of-together lanes payload few legal i h =
+    ap₂ {C = Payload} (λ (word strb : ℕ). record { «data» = word; strb = strb })
+    (lane-entry 0 (λ j. payload j .«data») lanes i 0 few h)
+    (strobes-found payload lanes i legal h)
+
+pub apart-is-each : ApartIsEach
+apart-is-each lanes payload few legal =
+    lane-of-together lanes payload few (λ i h. let l = leb-true (payload i .strb) maxStrb (legal i h) in omega arith)
+
+pub together-is-whole : TogetherIsWhole
+together-is-whole lanes w few size past fits =
+    ap₂ {C = Wide} (λ (words : List ℕ) (strb : ℕ). record { «data» = words; strb = strb })
+    (ext-getD 0 (perLane lanes 0 (λ i. getD (w .«data») i 0)) (w .«data») (sym size) each)
+    (strobes-of-lanes w lanes ∙ mod-eq-of-lt fits)
+  where
+    each : (i : ℕ) → i < maxLanes → getD (perLane lanes 0 (λ j. getD (w .«data») j 0)) i 0 ≡ getD (w .«data») i 0
+    each i h =
+        ⊎-elim
+        (λ t. lane-entry 0 (λ j. getD (w .«data») j 0) lanes i 0 few (ltb-true i lanes t))
+        (λ f. let l = ltb-false i lanes f in no-entry 0 (λ j. getD (w .«data») j 0) lanes i l ∙ sym (past i l))
+        (either (ltb i lanes))
+
+-- ---- in one cycle
+
+-- nothing is handed over without ready
+unready : (o : Offer) → handed o false ≡ []
+unready o = of-valid (o .valid)
+  where
+    of-valid : (b : Bool) → handed (record { valid = b; payload = o .payload }) false ≡ []
+    of-valid true = refl
+    of-valid false = refl
+
+-- v, all inputs are valid, and r, all branches are ready: what an input with valid iv offers and what a branch with ready br is offered
+agrees : (v r iv br : Bool) (p q : Payload) → (v ≡ true → iv ≡ true) → (r ≡ true → br ≡ true) → (v ≡ true → p ≡ q) →
+    handed (offerWhen (v && r) p) br ≡ handed (record { valid = iv; payload = q }) (r && v)
+agrees true true iv br p q valid ready same = rw (valid refl, ready refl, same refl)
+agrees true false iv br p q valid ready same = sym (unready (record { valid = iv; payload = q }))
+agrees false true iv br p q valid ready same = sym (unready (record { valid = iv; payload = q }))
+agrees false false iv br p q valid ready same = sym (unready (record { valid = iv; payload = q }))
+
+-- what a merge shows has no strobe past the lanes, so the split behind it is not refused for one
+no-strobe-past : (lanes : ℕ) (inputs : List Offer) (ready : Bool) → legalLanes lanes ≡ true →
+    strobePast lanes (ofMerge.answer lanes inputs ready .wide) ≡ false
+no-strobe-past lanes inputs ready l =
+    ⊎-elim
+    (λ s. ap past (merge-accepts lanes inputs ready l s) ∙ ⊎-elim (shows s) hides (either (allValid lanes inputs)))
+    (λ s. ap past (merge-refuses-strobes lanes inputs ready l s) ∙ none)
+    (either (legalStrobes lanes inputs))
+  where
+    past : ofMerge.Answer → Bool
+    past a = strobePast lanes (a .wide)
+
+    none : strobePast lanes wideZeros ≡ false
+    none = lt-leb (16 ^ lanes) 0 (pow-pos lanes)
+
+    shows : legalStrobes lanes inputs ≡ true → allValid lanes inputs ≡ true → past (ofMerge.cycle lanes inputs ready) ≡ false
+    shows s v = rw v (lt-leb (16 ^ lanes) _ (strobes-fit (payloadAt inputs) lanes (legal-below inputs lanes s)))
+
+    hides : allValid lanes inputs ≡ false → past (ofMerge.cycle lanes inputs ready) ≡ false
+    hides v = rw v none
+
+-- where the two are not refused
+module _ (lanes : ℕ) (inputs : List Offer) (readies : List Bool) (few : lanes ≤ maxLanes) (s : legalStrobes lanes inputs ≡ true) where
+  abbrev v : Bool
+  v = allValid lanes inputs
+
+  abbrev r : Bool
+  r = allReady lanes readies
+
+  abbrev wide : Wide
+  wide = ofMerge.cycle lanes inputs r .wide
+
+  -- what an input hands over is what its branch is handed, at a lane and past the lanes
+  cycle-same : (i : ℕ) →
+      handed (offerAt (ofSplit.cycle lanes v wide readies .branches) i) (readyAt readies i)
+      ≡ handed (offerAt inputs i) (readyAt (ofMerge.cycle lanes inputs r .readies) i)
+  cycle-same i = ⊎-elim (λ t. inside (ltb-true i lanes t)) (λ f. outside (ltb-false i lanes f)) (either (ltb i lanes))
+    where
+      inside : i < lanes →
+          handed (offerAt (ofSplit.cycle lanes v wide readies .branches) i) (readyAt readies i)
+          ≡ handed (offerAt inputs i) (readyAt (ofMerge.cycle lanes inputs r .readies) i)
+      inside h =
+          ap (λ (o : Offer). handed o (readyAt readies i)) (lane-entry noOffer (λ j. offerWhen (v && r) (lane wide j)) lanes i noOffer few h)
+          ∙ agrees v r (offerAt inputs i .valid) (readyAt readies i) (lane wide i) (payloadAt inputs i)
+          (λ e. each-below (λ j. offerAt inputs j .valid) lanes e i h)
+          (λ e. each-below (readyAt readies) lanes e i h)
+          (λ e. rw e (lane-of-together lanes (payloadAt inputs) few (legal-below inputs lanes s) i h))
+          ∙ sym (ap (handed (offerAt inputs i)) (lane-entry false (λ j. r && v) lanes i false few h))
+
+      outside : lanes ≤ i →
+          handed (offerAt (ofSplit.cycle lanes v wide readies .branches) i) (readyAt readies i)
+          ≡ handed (offerAt inputs i) (readyAt (ofMerge.cycle lanes inputs r .readies) i)
+      outside h =
+          ap (λ (o : Offer). handed o (readyAt readies i)) (no-entry noOffer (λ j. offerWhen (v && r) (lane wide j)) lanes i h)
+          ∙ sym (ap (handed (offerAt inputs i)) (no-entry false (λ j. r && v) lanes i h) ∙ unready (offerAt inputs i))
+
+-- where each branch is offered nothing
+no-offer : (lanes i : ℕ) → lanes ≤ maxLanes → offerAt (perLane lanes noOffer (λ j. noOffer)) i ≡ noOffer
+no-offer lanes i few =
+    ⊎-elim
+    (λ t. lane-entry noOffer (λ j. noOffer) lanes i noOffer few (ltb-true i lanes t))
+    (λ f. no-entry noOffer (λ j. noOffer) lanes i (ltb-false i lanes f))
+    (either (ltb i lanes))
+
+pub same-cycle : SameCycle
+same-cycle lanes i c =
+    ⊎-elim (λ l. ⊎-elim (accepted l) (refused l) (either (legalStrobes lanes (c .inputs)))) illegal (either (legalLanes lanes))
+  where
+    -- where the branch is offered nothing and the input gets no ready neither has a handshake
+    neither : offerAt (c .split .branches) i ≡ noOffer → readyAt (c .merge .readies) i ≡ false → toBranch i c ≡ fromInput i c
+    neither b g =
+        ap (λ (o : Offer). handed o (readyAt (c .readies) i)) b
+        ∙ sym (ap (handed (offerAt (c .inputs) i)) g ∙ unready (offerAt (c .inputs) i))
+
+    illegal : legalLanes lanes ≡ false → toBranch i c ≡ fromInput i c
+    illegal l =
+        neither
+        (ap (λ (a : ofSplit.Answer). offerAt (a .branches) i) (c .splits ∙ split-refuses-lanes lanes (c .merge .valid) (c .merge .wide) (c .readies) l)
+        ∙ no-entry noOffer (λ j. noOffer) 0 i (omega arith))
+        (ap (λ (a : ofMerge.Answer). readyAt (a .readies) i) (c .merges ∙ merge-refuses-lanes lanes (c .inputs) (c .split .ready) l)
+        ∙ no-entry false (λ j. false) 0 i (omega arith))
+
+    -- the split is not refused
+    splits : legalLanes lanes ≡ true → c .split ≡ ofSplit.cycle lanes (c .merge .valid) (c .merge .wide) (c .readies)
+    splits l =
+        c .splits
+        ∙ split-accepts lanes (c .merge .valid) (c .merge .wide) (c .readies) l
+        (ap (λ (a : ofMerge.Answer). strobePast lanes (a .wide)) (c .merges) ∙ no-strobe-past lanes (c .inputs) (c .split .ready) l)
+
+    refused : legalLanes lanes ≡ true → legalStrobes lanes (c .inputs) ≡ false → toBranch i c ≡ fromInput i c
+    refused l s =
+        let merges : c .merge ≡ ofMerge.refused 2 = c .merges ∙ merge-refuses-strobes lanes (c .inputs) (c .split .ready) l s in
+        neither
+        (ap (λ (a : ofSplit.Answer). offerAt (a .branches) i)
+        (splits l ∙ ap (λ (a : ofMerge.Answer). ofSplit.cycle lanes (a .valid) (a .wide) (c .readies)) merges)
+        ∙ no-offer lanes i (lanes-few lanes l))
+        (ap (λ (a : ofMerge.Answer). readyAt (a .readies) i) merges ∙ no-entry false (λ j. false) 0 i (omega arith))
+
+    accepted : legalLanes lanes ≡ true → legalStrobes lanes (c .inputs) ≡ true → toBranch i c ≡ fromInput i c
+    accepted l s =
+        let merges : c .merge ≡ ofMerge.cycle lanes (c .inputs) (c .split .ready) = c .merges ∙ merge-accepts lanes (c .inputs) (c .split .ready) l s in
+        let ready : c .split .ready ≡ allReady lanes (c .readies) = ap (λ (a : ofSplit.Answer). a .ready) (splits l) in
+        ap (λ (a : ofSplit.Answer). handed (offerAt (a .branches) i) (readyAt (c .readies) i))
+        (splits l ∙ ap (λ (a : ofMerge.Answer). ofSplit.cycle lanes (a .valid) (a .wide) (c .readies)) merges)
+        ∙ cycle-same lanes (c .inputs) (c .readies) (lanes-few lanes l) s i
+        ∙ sym
+        (ap (λ (a : ofMerge.Answer). handed (offerAt (c .inputs) i) (readyAt (a .readies) i)) (merges ∙ ap (ofMerge.cycle lanes (c .inputs)) ready))
+
+pub same-order : SameOrder
+same-order lanes i [] = refl
+same-order lanes i (c ∷ cs) = ap₂ (λ (ps qs : List Payload). ps ++ qs) (same-cycle lanes i c) (same-order lanes i cs)
+
+-- a split's ready does not depend on what its source shows, so that the wire closes
+pub wires : Wires
+wires lanes inputs readies = (
+  record { inputs = inputs; readies = readies; merge = merge; split = split; merges = ap (ofMerge.answer lanes inputs) same; splits = refl },
+  refl,
+  refl,
+)
+  where
+    ready : Bool
+    ready = ofSplit.answer lanes false wideZeros readies .ready
+
+    merge : ofMerge.Answer
+    merge = ofMerge.answer lanes inputs ready
+
+    split : ofSplit.Answer
+    split = ofSplit.answer lanes (merge .valid) (merge .wide) readies
+
+    readyIn : ofSplit.Answer → Bool
+    readyIn a = a .ready
+
+    same : ready ≡ split .ready
+    same =
+        ⊎-elim
+        (λ l. ap readyIn (split-accepts lanes false wideZeros readies l (lt-leb (16 ^ lanes) 0 (pow-pos lanes)))
+        ∙ sym (ap readyIn (split-accepts lanes (merge .valid) (merge .wide) readies l (no-strobe-past lanes inputs ready l))))
+        (λ l. ap readyIn (split-refuses-lanes lanes false wideZeros readies l)
+        ∙ sym (ap readyIn (split-refuses-lanes lanes (merge .valid) (merge .wide) readies l)))
+        (either (legalLanes lanes))
