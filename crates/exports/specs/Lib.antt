@@ -4,5 +4,6 @@ pub mod Verdicts
 pub mod Monitors
 pub mod Fifos
 pub mod Chains
+pub mod Lanes
 pub mod Buffers
 pub mod Fields

@@ -5,3 +5,4 @@ pub mod Answers
 pub mod Wired
 pub mod Keeping
 pub mod Waiting
+pub mod Examples

@@ -31,14 +31,14 @@ pub(crate) fn all_valid(n: usize, inputs: [Offer; MAX_LANES]) -> bool
     requires { ⌜ n ≤ maxLanes ⌝ }
     ensures { λ r. ⌜ r ≡ allValid n inputs ⌝ }
 {
-    let mut all = true;
+    let mut valid = true;
     let mut i = 0;
     while i < n {
         let input = inputs[i];
-        all = all & input.valid;
+        valid = valid & input.valid;
         i += 1;
     }
-    all
+    valid
 }
 
 // Their data, side by side.

@@ -8,10 +8,10 @@ use Rattle.lanes.proofs.inputs.all_valid.Statement.{statement}
 use Rattle.lanes.proofs.inputs.all_valid.Tie as tie
 
 abbrev Inv-loop : tie.InvT-loop
-Inv-loop n inputs all₀ i₀ all i = (i ≤ n) × (all ≡ allValid i inputs)
+Inv-loop n inputs valid₀ i₀ valid i = (i ≤ n) × (valid ≡ allValid i inputs)
 
 abbrev μ-loop : tie.MeasureT-loop
-μ-loop n inputs all₀ i₀ all i = n - i
+μ-loop n inputs valid₀ i₀ valid i = n - i
 
 loop-holds : tie.Need-loop-holds Inv-loop μ-loop
 loop-holds c = (omega arith, refl)
@@ -29,7 +29,7 @@ loop-less : tie.Need-loop-less Inv-loop μ-loop
 loop-less c = omega arith
 
 loop-again : tie.Need-loop-again Inv-loop μ-loop
-loop-again c = let l = c .before .before .before .loop in (omega arith, every-joins _ (l .i) (l .all) (l .inv .1))
+loop-again c = let l = c .before .before .before .loop in (omega arith, every-joins _ (l .i) (l .valid) (l .inv .1))
 
 returns : tie.Need-returns Inv-loop μ-loop
 returns c =

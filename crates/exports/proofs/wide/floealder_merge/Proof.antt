@@ -1,0 +1,24 @@
+-- `floealder_merge` meets its contract: it gives what `lanes::merge` ensures, in numbers. Assumes nothing.
+use Prim.Native.Nat.{ℕ}
+use mathlib.Core.Path.{_∙_, ap}
+use borrow.Author.Needs.{needs}
+use Rattle.exports.specs.declared.wide.MergeStep.{MergeStep}
+use Rattle.exports.specs.Lanes.{mergeNumbers}
+use Rattle.exports.proofs.wide.floealder_merge.Statement.{statement}
+use Rattle.exports.proofs.wide.floealder_merge.Tie as tie
+
+merge-requires : tie.Need-merge-requires
+merge-requires c κs = search needs
+
+refusal-requires : tie.Need-refusal-requires
+refusal-requires c κs = search needs
+
+returns : tie.Need-returns
+returns c =
+    let merge = c .before .before .before .merge in
+    let m = merge .result in
+    ap {B = MergeStep} (λ (n : ℕ). record { refusal = n; valid = m .valid; wide = m .wide; readies = m .readies }) (c .refusal .ensures)
+    ∙ ap mergeNumbers (merge .ensures)
+
+pub floealder-merge-spec : {M : Type 1} → statement M
+floealder-merge-spec = tie.close (tie.spec merge-requires refusal-requires returns)
