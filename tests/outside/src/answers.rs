@@ -11,6 +11,7 @@ pub const ALIGN: u8 = 101;
 
 pub const MAX_DEPTH: usize = 64;
 pub const MAX_FIFOS: usize = 16;
+pub const MAX_LANES: usize = 4;
 
 /// The verdict on a stream's trace; rule and cycle are 0 unless it is broken. Handshakes and clear cycles are those before the
 /// broken one, or all.
@@ -138,6 +139,46 @@ pub struct ChainRun {
 pub struct DeliveryTime {
     pub refusal: u8,
     pub cycles: usize,
+}
+
+/// What a stream's source offers in one cycle.
+#[repr(C)]
+#[derive(Clone, Copy, PartialEq, Eq, Debug)]
+pub struct Offer {
+    pub valid: bool,
+    pub payload: Payload,
+}
+
+/// What a wide stream carries in one cycle: a word for each lane, lane 0 first, and four strobe bits for each.
+#[repr(C)]
+#[derive(Clone, Copy, PartialEq, Eq, Debug)]
+pub struct Wide {
+    pub data: [u32; MAX_LANES],
+    pub strb: u16,
+}
+
+/// One of each lane, as a struct: C passes no array by value.
+#[repr(C)]
+#[derive(Clone, Copy)]
+pub struct Each<T>(pub [T; MAX_LANES]);
+
+/// What a merge shows its output, and the ready that it gives each input.
+#[repr(C)]
+#[derive(Clone, Copy, PartialEq, Eq, Debug)]
+pub struct Merged {
+    pub refusal: u8,
+    pub valid: bool,
+    pub wide: Wide,
+    pub readies: [bool; MAX_LANES],
+}
+
+/// The ready that a split gives its source, and what it offers each branch.
+#[repr(C)]
+#[derive(Clone, Copy, PartialEq, Eq, Debug)]
+pub struct Split {
+    pub refusal: u8,
+    pub ready: bool,
+    pub branches: [Offer; MAX_LANES],
 }
 
 /// The address generator's settings.

@@ -74,6 +74,8 @@ extern "C" {
         out_datas: usize,
     ) -> ChainRun;
     fn floealder_chain_delivery_time(chain: Chain, i: usize) -> DeliveryTime;
+    fn floealder_merge(lanes: u8, inputs: Each<Offer>, ready: bool) -> Merged;
+    fn floealder_split(lanes: u8, valid: bool, wide: Wide, readies: Each<bool>) -> Split;
     fn floealder_mux_static(
         t0: *const u8,
         cycles0: usize,
@@ -215,6 +217,14 @@ pub fn chain_run(
 
 pub fn chain_delivery_time(chain: Chain, i: usize) -> DeliveryTime {
     unsafe { floealder_chain_delivery_time(chain, i) }
+}
+
+pub fn merge(lanes: u8, inputs: [Offer; MAX_LANES], ready: bool) -> Merged {
+    unsafe { floealder_merge(lanes, Each(inputs), ready) }
+}
+
+pub fn split(lanes: u8, valid: bool, wide: Wide, readies: [bool; MAX_LANES]) -> Split {
+    unsafe { floealder_split(lanes, valid, wide, Each(readies)) }
 }
 
 /// The part's length; its bytes are copied to the output's start.

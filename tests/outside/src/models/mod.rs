@@ -4,6 +4,7 @@ pub mod addressgen;
 pub mod bench_text;
 pub mod chain;
 pub mod fifo;
+pub mod lanes;
 pub mod memory;
 pub mod monitor;
 pub mod mux;

@@ -7,6 +7,7 @@ mod delay;
 mod delivery_time;
 mod fields;
 mod fifo;
+mod lanes;
 mod memory;
 mod monitor;
 mod monitor_records;

@@ -1,11 +1,12 @@
 //! The comparisons can fail: each tells a call apart that is wrong in one thing.
 
 use crate::{
-    addressgen, bench_text, chain, delivery_time, fifo, memory, monitor, mux, stream, strobes,
+    addressgen, bench_text, chain, delivery_time, fifo, lanes, memory, monitor, mux, stream,
+    strobes,
 };
 use outside::answers::{
-    Chain, ChainRun, DeliveryTime, Fifo, Monitor, Payload, Place, StreamAnswer, BROKEN, CLEAN,
-    MAX_DEPTH, MAX_FIFOS,
+    Chain, ChainRun, DeliveryTime, Fifo, Merged, Monitor, Offer, Payload, Place, Split,
+    StreamAnswer, Wide, BROKEN, CLEAN, MAX_DEPTH, MAX_FIFOS, MAX_LANES,
 };
 use outside::models::chain::{Line, Offered};
 use outside::models::fifo::{legal_place, Stage, NOTHING};
@@ -1134,6 +1135,163 @@ fn refusals_in_another_order() {
             monitor::compare_damaged(random, |record, control, data| {
                 let refusal = first(record, control);
                 refusal.unwrap_or_else(|| linked::monitor_feed(record, control, data))
+            })
+        });
+    }
+}
+
+/// A wrong merge: what was asked, and what it answers in place of the right answer.
+type WrongMerge = fn(u8, [Offer; MAX_LANES], bool, Merged) -> Merged;
+
+#[test]
+fn a_wrong_merge() {
+    let wrong: [WrongMerge; 9] = [
+        // Valid when any input is.
+        |lanes, inputs, ready, right| match inputs[..usize::from(lanes).min(4)]
+            .iter()
+            .any(|input| input.valid)
+        {
+            true => linked::merge(
+                lanes,
+                inputs.map(|input| Offer {
+                    valid: true,
+                    ..input
+                }),
+                ready,
+            ),
+            false => right,
+        },
+        // An input gets ready whatever the others show, as the manual has it.
+        |lanes, _, ready, right| Merged {
+            readies: std::array::from_fn(|i| ready && right.refusal == 0 && i < lanes as usize),
+            ..right
+        },
+        // An input gets ready when it is valid itself.
+        |lanes, inputs, ready, right| Merged {
+            readies: std::array::from_fn(|i| {
+                ready && right.refusal == 0 && i < lanes as usize && inputs[i].valid
+            }),
+            ..right
+        },
+        // Lanes 0 and 1 are exchanged.
+        |lanes, mut inputs, ready, _| {
+            inputs.swap(0, 1);
+            let mut merged = linked::merge(lanes, inputs, ready);
+            merged.readies.swap(0, 1);
+            merged
+        },
+        // The strobes of lane 0 are highest.
+        |_, _, _, mut right| {
+            right.wide.strb = right.wide.strb.reverse_bits();
+            right
+        },
+        // Data past the lanes is shown.
+        |_, inputs, _, mut right| {
+            if right.valid {
+                right.wide.data = inputs.map(|input| input.payload.data);
+            }
+            right
+        },
+        // A payload is shown with valid 0.
+        |lanes, inputs, ready, right| Merged {
+            wide: linked::merge(
+                lanes,
+                inputs.map(|input| Offer {
+                    valid: true,
+                    ..input
+                }),
+                ready,
+            )
+            .wide,
+            ..right
+        },
+        // Three lanes are accepted.
+        |lanes, inputs, ready, right| match lanes {
+            3 => linked::merge(4, inputs, ready),
+            _ => right,
+        },
+        // A strobe is refused before the number of lanes is.
+        |lanes, inputs, _, mut right| {
+            if right.refusal == 5
+                && inputs[..usize::from(lanes).min(4)]
+                    .iter()
+                    .any(|input| input.payload.strb > 15)
+            {
+                right.refusal = 2;
+            }
+            right
+        },
+    ];
+    for wrong in wrong {
+        differs(|random| {
+            lanes::compare_merge(random, |lanes, inputs, ready| {
+                wrong(lanes, inputs, ready, linked::merge(lanes, inputs, ready))
+            })
+        });
+    }
+}
+
+/// A wrong split: what was asked, and what it answers in place of the right answer.
+type WrongSplit = fn(u8, bool, Wide, [bool; MAX_LANES], Split) -> Split;
+
+#[test]
+fn a_wrong_split() {
+    let wrong: [WrongSplit; 7] = [
+        // A branch is offered its lane whatever the readies are, as the manual has it.
+        |lanes, valid, wide, _, right| Split {
+            branches: linked::split(lanes, valid, wide, [true; MAX_LANES]).branches,
+            ..right
+        },
+        // A branch is offered its lane whatever its neighbours' readies are.
+        |lanes, valid, wide, readies, right| {
+            let all = linked::split(lanes, valid, wide, [true; MAX_LANES]).branches;
+            let none = models::lanes::NO_OFFER;
+            Split {
+                branches: std::array::from_fn(|i| if readies[i] { all[i] } else { none }),
+                ..right
+            }
+        },
+        // The source gets ready only when it is valid.
+        |_, valid, _, _, right| Split {
+            ready: right.ready && valid,
+            ..right
+        },
+        // Branches past the lanes are read.
+        |lanes, valid, wide, readies, right| match readies.contains(&false) {
+            true => linked::split(lanes, valid, wide, [false; MAX_LANES]),
+            false => right,
+        },
+        // A wide strobe past the lanes is accepted.
+        |lanes, valid, mut wide, readies, _| {
+            if lanes == 2 {
+                wide.strb %= 256;
+            }
+            linked::split(lanes, valid, wide, readies)
+        },
+        // A wide strobe past the lanes is refused only when valid is 1.
+        |lanes, valid, mut wide, readies, right| {
+            if valid || right.refusal != 2 {
+                return right;
+            }
+            wide.strb = 0;
+            linked::split(lanes, valid, wide, readies)
+        },
+        // Three lanes are accepted.
+        |lanes, valid, wide, readies, right| match lanes {
+            3 => linked::split(4, valid, wide, readies),
+            _ => right,
+        },
+    ];
+    for wrong in wrong {
+        differs(|random| {
+            lanes::compare_split(random, |lanes, valid, wide, readies| {
+                wrong(
+                    lanes,
+                    valid,
+                    wide,
+                    readies,
+                    linked::split(lanes, valid, wide, readies),
+                )
             })
         });
     }
