@@ -1,14 +1,13 @@
 -- What a merge and a split answer: a cycle by its parts, or a refusal, by the grounds one after the other. Assumes nothing.
 use Prim.Native.Nat.{ℕ, _<_, _≤_}
 use native.Mathlib.Omega.{arith}
-use mathlib.Core.Bool.{Bool, true, false, cond, not, _&&_, false≢true}
+use mathlib.Core.Bool.{Bool, true, false, cond, _&&_, false≢true}
 use mathlib.Core.List.{List}
 use mathlib.Core.Logic.{⊎-elim}
 use mathlib.Core.Option.{none}
-use mathlib.Core.Path.{_≡_, refl, sym, _∙_, ap}
+use mathlib.Core.Path.{_≡_, sym, _∙_, ap, subst}
 use lib.Dec.{eqb, ltb}
 use borrow.Author.Tests.{eqb-true, ltb-true, ltb-false}
-use Rattle.signals.specs.declared.Payload.{Payload}
 use Rattle.signals.proofs.Bools.{either, both}
 use Rattle.lanes.specs.declared.Offer.{Offer}
 use Rattle.lanes.specs.declared.Wide.{Wide}
@@ -48,10 +47,18 @@ module _ (lanes : ℕ) (inputs : List Offer) (ready : Bool) where
   unfolding ofMerge.answer
   merge-refuses-lanes l = rw l
 
--- an offer is valid when it is made
-pub valid-when : (b : Bool) (p : Payload) → offerWhen b p .valid ≡ b
-valid-when true p = refl
-valid-when false p = refl
+  -- what holds of an accepted cycle, and of a refusal with any number, holds of every answer
+  pub merge-by : (P : ofMerge.Answer → Type 0) →
+      (legalLanes lanes ≡ true → ofMerge.legalStrobes lanes inputs ≡ true → P (ofMerge.cycle lanes inputs ready)) →
+      ((number : ℕ) → P (ofMerge.refused number)) → P (ofMerge.answer lanes inputs ready)
+  merge-by P accepted refused =
+      ⊎-elim
+      (λ l. ⊎-elim
+      (λ s. subst P (sym (merge-accepts l s)) (accepted l s))
+      (λ s. subst P (sym (merge-refuses-strobes l s)) (refused 2))
+      (either (ofMerge.legalStrobes lanes inputs)))
+      (λ l. subst P (sym (merge-refuses-lanes l)) (refused 5))
+      (either (legalLanes lanes))
 
 module _ (lanes : ℕ) (valid : Bool) (wide : Wide) (readies : List Bool) where
   pub split-parts : (ready : Bool) (branches : List Offer) → ready ≡ ofSplit.allReady lanes readies →
@@ -73,64 +80,56 @@ module _ (lanes : ℕ) (valid : Bool) (wide : Wide) (readies : List Bool) where
   unfolding ofSplit.answer
   split-refuses-lanes l = rw l
 
-  -- whether branch i is offered anything
-  abbrev pub isOffered : ℕ → Bool
-  isOffered i = legalLanes lanes && (not (ofSplit.strobePast lanes wide) && (ltb i lanes && (valid && ofSplit.allReady lanes readies)))
+  pub split-by : (P : ofSplit.Answer → Type 0) →
+      (legalLanes lanes ≡ true → ofSplit.strobePast lanes wide ≡ false → P (ofSplit.cycle lanes valid wide readies)) →
+      ((number : ℕ) → P (ofSplit.refused number)) → P (ofSplit.answer lanes valid wide readies)
+  split-by P accepted refused =
+      ⊎-elim
+      (λ l. ⊎-elim
+      (λ s. subst P (sym (split-refuses-strobes l s)) (refused 2))
+      (λ s. subst P (sym (split-accepts l s)) (accepted l s))
+      (either (ofSplit.strobePast lanes wide)))
+      (λ l. subst P (sym (split-refuses-lanes l)) (refused 5))
+      (either (legalLanes lanes))
 
-  -- what it is offered, refused or not, at a lane and past the lanes
-  pub branch-offer : (i : ℕ) → offerAt (ofSplit.answer lanes valid wide readies .branches) i ≡ offerWhen (isOffered i) (lane wide i)
-  branch-offer i = ⊎-elim (λ l. ⊎-elim (refused l) (accepted l) (either (ofSplit.strobePast lanes wide))) illegal (either (legalLanes lanes))
+  -- the source gets ready only when all branches are
+  pub ready-all : ofSplit.answer lanes valid wide readies .ready ≡ true → ofSplit.allReady lanes readies ≡ true
+  ready-all =
+      split-by (λ a. a .ready ≡ true → ofSplit.allReady lanes readies ≡ true) (λ l s e. e) (λ number e. absurd (false≢true e))
+
+  -- a branch is offered something only when the source is valid and all branches are ready
+  pub offers-none : valid && ofSplit.allReady lanes readies ≡ false → (i : ℕ) → offerAt (ofSplit.answer lanes valid wide readies .branches) i ≡ noOffer
+  offers-none e i =
+      split-by (λ a. offerAt (a .branches) i ≡ noOffer)
+      (λ l s. ⊎-elim
+      (λ t. lane-entry noOffer entry lanes i noOffer (lanes-few lanes l) (ltb-true i lanes t)
+      ∙ ap (λ (b : Bool). offerWhen b (lane wide i)) e)
+      (λ f. no-entry noOffer entry lanes i (ltb-false i lanes f))
+      (either (ltb i lanes)))
+      (λ number. no-entry noOffer (λ j. noOffer) 0 i (omega arith))
     where
-      at : ofSplit.Answer → Offer
-      at a = offerAt (a .branches) i
-
       entry : ℕ → Offer
       entry j = offerWhen (valid && ofSplit.allReady lanes readies) (lane wide j)
 
-      nothing : isOffered i ≡ false → noOffer ≡ offerWhen (isOffered i) (lane wide i)
-      nothing e = sym (ap (λ (b : Bool). offerWhen b (lane wide i)) e)
-
-      illegal : legalLanes lanes ≡ false → at (ofSplit.answer lanes valid wide readies) ≡ offerWhen (isOffered i) (lane wide i)
-      illegal l = ap at (split-refuses-lanes l) ∙ no-entry noOffer (λ j. noOffer) 0 i (omega arith) ∙ nothing (rw l)
-
-      refused : legalLanes lanes ≡ true → ofSplit.strobePast lanes wide ≡ true →
-          at (ofSplit.answer lanes valid wide readies) ≡ offerWhen (isOffered i) (lane wide i)
-      refused l s = ap at (split-refuses-strobes l s) ∙ no-entry noOffer (λ j. noOffer) 0 i (omega arith) ∙ nothing (rw (l, s))
-
-      inside : legalLanes lanes ≡ true → ofSplit.strobePast lanes wide ≡ false → ltb i lanes ≡ true →
-          at (ofSplit.cycle lanes valid wide readies) ≡ offerWhen (isOffered i) (lane wide i)
-      inside l s t = lane-entry noOffer entry lanes i noOffer (lanes-few lanes l) (ltb-true i lanes t) ∙ rw (l, s, t)
-
-      outside : legalLanes lanes ≡ true → ofSplit.strobePast lanes wide ≡ false → ltb i lanes ≡ false →
-          at (ofSplit.cycle lanes valid wide readies) ≡ offerWhen (isOffered i) (lane wide i)
-      outside l s f = no-entry noOffer entry lanes i (ltb-false i lanes f) ∙ nothing (rw (l, s, f))
-
-      accepted : legalLanes lanes ≡ true → ofSplit.strobePast lanes wide ≡ false →
-          at (ofSplit.answer lanes valid wide readies) ≡ offerWhen (isOffered i) (lane wide i)
-      accepted l s = ap at (split-accepts l s) ∙ ⊎-elim (inside l s) (outside l s) (either (ltb i lanes))
-
-  -- a branch that is offered something is one of the lanes, and all branches are ready
-  pub offered-ready : (i : ℕ) → offerAt (ofSplit.answer lanes valid wide readies .branches) i .valid ≡ true →
-      (i < lanes) × (ofSplit.allReady lanes readies ≡ true)
-  offered-ready i e =
-      let yes = sym (valid-when (isOffered i) (lane wide i)) ∙ sym (ap (λ (o : Offer). o .valid) (branch-offer i)) ∙ e in
-      let a = both (legalLanes lanes) _ yes .1 in
-      let b = both (not (ofSplit.strobePast lanes wide)) _ a .1 in
-      let c = both (ltb i lanes) _ b in
-      (ltb-true i lanes (c .0), both valid (ofSplit.allReady lanes readies) (c .1) .1)
-
-  -- and so they are where the source gets ready
-  pub source-ready : ofSplit.answer lanes valid wide readies .ready ≡ true → ofSplit.allReady lanes readies ≡ true
-  source-ready e = ⊎-elim (λ l. ⊎-elim (refused l) (accepted l) (either (ofSplit.strobePast lanes wide))) illegal (either (legalLanes lanes))
+  -- and only where it is one of the lanes
+  pub offered-lane : (i : ℕ) → offerAt (ofSplit.answer lanes valid wide readies .branches) i .valid ≡ true → i < lanes
+  offered-lane i =
+      split-by (λ a. offerAt (a .branches) i .valid ≡ true → i < lanes)
+      (λ l s e. ⊎-elim
+      (λ t. ltb-true i lanes t)
+      (λ f. absurd (false≢true (sym (ap validIn (no-entry noOffer entry lanes i (ltb-false i lanes f))) ∙ e)))
+      (either (ltb i lanes)))
+      (λ number e. absurd (false≢true (sym (ap validIn (no-entry noOffer (λ j. noOffer) 0 i (omega arith))) ∙ e)))
     where
-      readyIn : ofSplit.Answer → Bool
-      readyIn a = a .ready
+      entry : ℕ → Offer
+      entry j = offerWhen (valid && ofSplit.allReady lanes readies) (lane wide j)
 
-      illegal : legalLanes lanes ≡ false → ofSplit.allReady lanes readies ≡ true
-      illegal l = absurd (false≢true (sym (ap readyIn (split-refuses-lanes l)) ∙ e))
+      validIn : Offer → Bool
+      validIn o = o .valid
 
-      refused : legalLanes lanes ≡ true → ofSplit.strobePast lanes wide ≡ true → ofSplit.allReady lanes readies ≡ true
-      refused l s = absurd (false≢true (sym (ap readyIn (split-refuses-strobes l s)) ∙ e))
-
-      accepted : legalLanes lanes ≡ true → ofSplit.strobePast lanes wide ≡ false → ofSplit.allReady lanes readies ≡ true
-      accepted l s = sym (ap readyIn (split-accepts l s)) ∙ e
+  pub offered-ready : (i : ℕ) → offerAt (ofSplit.answer lanes valid wide readies .branches) i .valid ≡ true → ofSplit.allReady lanes readies ≡ true
+  offered-ready i e =
+      ⊎-elim
+      (λ t. both valid (ofSplit.allReady lanes readies) t .1)
+      (λ f. absurd (false≢true (sym (ap (λ (o : Offer). o .valid) (offers-none f i)) ∙ e)))
+      (either (valid && ofSplit.allReady lanes readies))

@@ -5,47 +5,38 @@ use Prim.Native.Nat.{ℕ, zero, suc, _<_, _≤_}
 use native.Mathlib.Omega.{arith}
 use mathlib.Core.Bool.{Bool, true, false, cond, not, _&&_, false≢true}
 use mathlib.Core.List.{List}
-use mathlib.Core.Logic.{⊎-elim}
 use mathlib.Core.Path.{_≡_, refl, sym, _∙_, ap, ap₂}
-use lib.Dec.{ltb}
-use borrow.Author.Tests.{ltb-true, ltb-false, not-true}
+use borrow.Author.Tests.{not-true}
 use Rattle.signals.specs.declared.Payload.{Payload}
 use Rattle.signals.specs.Payloads.{legalStrb, samePayload}
 use Rattle.signals.specs.Stream.{Sample}
 use Rattle.signals.proofs.Below.{each-below, every-below}
-use Rattle.signals.proofs.Bools.{either, both, not-both}
+use Rattle.signals.proofs.Bools.{both}
 use Rattle.signals.proofs.Payloads.{same-payload, payloads-same}
 use Rattle.stream_checker.specs.Rules.{stalled, breaksHeld, breaksStable}
 use Rattle.lanes.specs.declared.Offer.{Offer}
 use Rattle.lanes.specs.declared.Wide.{Wide}
-use Rattle.lanes.specs.Lanes.{maxLanes, legalLanes, perLane}
-use Rattle.lanes.specs.Offers.{noOffer, offerWhen, offerAt}
+use Rattle.lanes.specs.Lanes.{maxLanes, legalLanes}
+use Rattle.lanes.specs.Offers.{offerAt}
 use Rattle.lanes.specs.Wide.{lane, together, wideZeros}
 use Rattle.lanes.specs.Merge as ofMerge
 use Rattle.lanes.specs.Merge.{payloadAt, legalStrobes, allValid}
-use Rattle.lanes.specs.Split as ofSplit
-use Rattle.lanes.specs.Split.{readyAt, strobePast, allReady}
-use Rattle.lanes.specs.Keeping.{seen, Keeps, Merging, mergeIn, inputTrace, outputTrace, KeepsWide, MergeKeepsRules, Splitting, splitIn, branchTrace, NoBranchStalls, BranchesKeepRules}
-use Rattle.lanes.proofs.PerLane.{lane-entry, no-entry, lanes-alike}
+use Rattle.lanes.specs.Split.{readyAt}
+use Rattle.lanes.specs.Keeping.{seen, Keeps, mergeIn, outputTrace, MergeKeepsRules, branchTrace, NoBranchStalls, BranchesKeepRules}
+use Rattle.lanes.proofs.PerLane.{lane-entry, lanes-alike}
 use Rattle.lanes.proofs.Digits.{strobes-alike}
-use Rattle.lanes.proofs.Answers.{lanes-few, merge-accepts, merge-refuses-strobes, merge-refuses-lanes, offered-ready}
+use Rattle.lanes.proofs.Answers.{lanes-few, merge-accepts, merge-by, offered-lane, offered-ready}
 
 -- ---- merge
 
 -- a merge that shows valid is not refused, and all its inputs are valid
 shows : (lanes : ℕ) (inputs : List Offer) (ready : Bool) → ofMerge.answer lanes inputs ready .valid ≡ true →
     (legalLanes lanes ≡ true) × (legalStrobes lanes inputs ≡ true) × (allValid lanes inputs ≡ true)
-shows lanes inputs ready e =
-    ⊎-elim
-    (λ l. ⊎-elim
-    (λ s. (l, s, sym (ap validIn (merge-accepts lanes inputs ready l s)) ∙ e))
-    (λ s. absurd (false≢true (sym (ap validIn (merge-refuses-strobes lanes inputs ready l s)) ∙ e)))
-    (either (legalStrobes lanes inputs)))
-    (λ l. absurd (false≢true (sym (ap validIn (merge-refuses-lanes lanes inputs ready l)) ∙ e)))
-    (either (legalLanes lanes))
-  where
-    validIn : ofMerge.Answer → Bool
-    validIn a = a .valid
+shows lanes inputs ready =
+    merge-by lanes inputs ready
+    (λ a. a .valid ≡ true → (legalLanes lanes ≡ true) × (legalStrobes lanes inputs ≡ true) × (allValid lanes inputs ≡ true))
+    (λ l s e. (l, s, e))
+    (λ number e. absurd (false≢true e))
 
 -- what the rules ask of a stream that stalls
 stays-valid : (s now : Bool) → s ≡ true → s && not now ≡ false → now ≡ true
@@ -168,8 +159,8 @@ no-branch-stalls lanes given i c = rule4 (branchTrace lanes given i c .valid) (b
   where
     ready : branchTrace lanes given i c .valid ≡ true → branchTrace lanes given i c .ready ≡ true
     ready e =
-        let w = offered-ready lanes (given c .valid) (given c .wide) (given c .readies) i e in
-        each-below (readyAt (given c .readies)) lanes (w .1) i (w .0)
+        each-below (readyAt (given c .readies)) lanes (offered-ready lanes (given c .valid) (given c .wide) (given c .readies) i e) i
+        (offered-lane lanes (given c .valid) (given c .wide) (given c .readies) i e)
 
 pub branches-keep-rules : BranchesKeepRules
 branches-keep-rules lanes given i n zero h = (refl, (refl, tt))

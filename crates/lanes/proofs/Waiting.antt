@@ -3,7 +3,7 @@
 use Prim.Native.Nat.{ℕ, zero, suc, _/_, _^_, _<_}
 use native.Mathlib.Nat.{mod-lt, zero-lt-suc}
 use native.Mathlib.Omega.{arith}
-use mathlib.Core.Bool.{Bool, true, false, cond}
+use mathlib.Core.Bool.{Bool, true, false, cond, _&&_}
 use mathlib.Core.List.{List, [], _∷_, _++_, map}
 use mathlib.Core.Logic.{⊎-elim}
 use mathlib.Core.Path.{_≡_, refl, sym, _∙_, ap}
@@ -12,7 +12,7 @@ use borrow.Author.Tests.{not-false, le-leb, lt-ltb}
 use Rattle.signals.specs.declared.Payload.{Payload}
 use Rattle.signals.specs.Payloads.{maxStrb, legalStrb}
 use Rattle.signals.proofs.Below.{each-below, every-below}
-use Rattle.signals.proofs.Bools.{either, not-both}
+use Rattle.signals.proofs.Bools.{either, both, not-both}
 use Rattle.signals.proofs.Tables.{none-keeps}
 use Rattle.fifo.specs.Queue as ofFifo
 use Rattle.fifo.specs.Queue.{Queue, well, stepOf, ready, shown, oldest, rest, isAny, next, empty, plain}
@@ -26,7 +26,8 @@ use Rattle.lanes.specs.Split as ofSplit
 use Rattle.lanes.specs.Split.{readyAt, allReady, strobePast}
 use Rattle.lanes.specs.Keeping.{Splitting, splitIn}
 use Rattle.lanes.specs.Waiting.{Waits, OneWaitingStopsAll, ReadyWithoutValid, behind, fifoIn, TakenAtOnce, FifosTakeAtOnce}
-use Rattle.lanes.proofs.Answers.{valid-when, isOffered, branch-offer, offered-ready, source-ready, split-accepts}
+use Rattle.lanes.proofs.PerLane.{lane-entry}
+use Rattle.lanes.proofs.Answers.{lanes-few, split-accepts, ready-all, offers-none, offered-ready}
 
 -- ---- a branch that waits
 
@@ -37,7 +38,7 @@ never-ready lanes given i h waits zero c g = absurd (omega arith)
 never-ready lanes given i h waits (suc n) c g =
     ⊎-elim
     (λ t. let seen = waits c t in
-    let all = offered-ready lanes (given (seen .0) .valid) (given (seen .0) .wide) (given (seen .0) .readies) i (seen .2) .1 in
+    let all = offered-ready lanes (given (seen .0) .valid) (given (seen .0) .wide) (given (seen .0) .readies) i (seen .2) in
     absurd
     (not-both (readyAt (given (seen .0) .readies) i) (each-below (readyAt (given (seen .0) .readies)) lanes all i h)
     (never-ready lanes given i h waits n (seen .0) (omega (arith, seen .1)))))
@@ -46,26 +47,23 @@ never-ready lanes given i h waits (suc n) c g =
 
 pub one-waiting-stops-all : OneWaitingStopsAll
 one-waiting-stops-all lanes given i h waits c = (
-  ⊎-elim (λ t. absurd (not-all (source-ready lanes (given c .valid) (given c .wide) (given c .readies) t))) (λ f. f) (either (splitIn lanes given c .ready)),
-  none,
+  ⊎-elim (λ t. absurd (not-all (ready-all lanes valid wide readies t))) (λ f. f) (either (splitIn lanes given c .ready)),
+  offers-none lanes valid wide readies (⊎-elim (λ t. absurd (not-all (both valid (allReady lanes readies) t .1))) (λ f. f) (either (valid && allReady lanes readies))),
 )
   where
-    not-all : allReady lanes (given c .readies) ≡ true → ⊥
-    not-all all =
-        not-both (readyAt (given c .readies) i) (each-below (readyAt (given c .readies)) lanes all i h)
-        (never-ready lanes given i h waits (suc c) c (omega arith))
+    valid : Bool
+    valid = given c .valid
 
-    none : (j : ℕ) → offerAt (splitIn lanes given c .branches) j ≡ noOffer
-    none j =
-        let b = isOffered lanes (given c .valid) (given c .wide) (given c .readies) j in
-        let made = branch-offer lanes (given c .valid) (given c .wide) (given c .readies) j in
-        ⊎-elim
-        (λ t. absurd
-        (not-all
-        (offered-ready lanes (given c .valid) (given c .wide) (given c .readies) j
-        (ap (λ (o : Offer). o .valid) made ∙ valid-when b (lane (given c .wide) j) ∙ t) .1)))
-        (λ f. made ∙ ap (λ (x : Bool). offerWhen x (lane (given c .wide) j)) f)
-        (either b)
+    wide : Wide
+    wide = given c .wide
+
+    readies : List Bool
+    readies = given c .readies
+
+    not-all : allReady lanes readies ≡ true → ⊥
+    not-all all =
+        not-both (readyAt readies i) (each-below (readyAt readies) lanes all i h)
+        (never-ready lanes given i h waits (suc c) c (omega arith))
 
 -- ---- a FIFO behind each branch
 
@@ -105,17 +103,23 @@ module _ (lanes : ℕ) (qs : List Queue) (wide : Wide) (l : legalLanes lanes ≡
       source : (valid : Bool) → ofSplit.answer lanes valid wide readies .ready ≡ true
       source valid = ap (λ (a : ofSplit.Answer). a .ready) (split-accepts lanes valid wide readies l s) ∙ all
 
+      -- branch i's offer
+      offered : (valid : Bool) (i : ℕ) → i < lanes →
+          offerAt (ofSplit.answer lanes valid wide readies .branches) i ≡ offerWhen (valid && allReady lanes readies) (lane wide i)
+      offered valid i h =
+          ap (λ (a : ofSplit.Answer). offerAt (a .branches) i) (split-accepts lanes valid wide readies l s)
+          ∙ lane-entry noOffer (λ j. offerWhen (valid && allReady lanes readies) (lane wide j)) lanes i noOffer (lanes-few lanes l) h
+
       wire : (valid : Bool) (i : ℕ) → i < lanes → (sink : Bool) → fifoIn lanes qs valid wide i sink .ready ≡ readyAt readies i
       wire valid i h sink =
-          ap (λ (o : Offer). stepOf (well (behind qs i)) (o .valid) (o .payload) sink false .ready) (branch-offer lanes valid wide readies i)
-          ∙ ready-without-valid (behind qs i) _ sink _ (offer-legal (isOffered lanes valid wide readies i) wide i)
+          ap (λ (o : Offer). stepOf (well (behind qs i)) (o .valid) (o .payload) sink false .ready) (offered valid i h)
+          ∙ ready-without-valid (behind qs i) _ sink _ (offer-legal (valid && allReady lanes readies) wide i)
           ∙ sym (ready-behind i)
 
       join : (i : ℕ) → i < lanes → (sink : Bool) → fifoIn lanes qs true wide i sink .next ≡ well (next (behind qs i) (lane wide i ∷ []) sink)
       join i h sink =
-          let made : isOffered lanes true wide readies i ≡ true = rw (l, s, lt-ltb i lanes h, all) in
           ap (λ (o : Offer). stepOf (well (behind qs i)) (o .valid) (o .payload) sink false .next)
-          (branch-offer lanes true wide readies i ∙ ap (λ (b : Bool). offerWhen b (lane wide i)) made)
+          (offered true i h ∙ ap (λ (b : Bool). offerWhen b (lane wide i)) all)
           ∙ ap (λ (a : ofFifo.Answer). a .next) (step-legal (behind qs i) true sink false (lane wide i) (lane-legal wide i))
 
       shows : (i : ℕ) → i < lanes → (sink : Bool) → isAny (shown (next (behind qs i) (lane wide i ∷ []) sink)) ≡ true

@@ -7,13 +7,13 @@ use native.Mathlib.Omega.{arith}
 use mathlib.Core.Bool.{Bool, true, false, _&&_}
 use mathlib.Core.List.{List, [], _∷_, _++_}
 use mathlib.Core.Logic.{⊎-elim}
-use mathlib.Core.Path.{_≡_, refl, sym, _∙_, ap, ap₂}
-use lib.Dec.{ltb, leb}
-use lib.ListN.{length, getD}
+use mathlib.Core.Path.{_≡_, refl, sym, _∙_, ap, ap₂, subst}
+use lib.Dec.{ltb}
+use lib.ListN.{getD}
 use lib.Seq.{ext-getD}
 use borrow.Author.Tests.{ltb-true, ltb-false, leb-true, lt-leb}
 use Rattle.signals.specs.declared.Payload.{Payload}
-use Rattle.signals.specs.Payloads.{maxStrb, legalStrb}
+use Rattle.signals.specs.Payloads.{maxStrb}
 use Rattle.signals.proofs.Below.{each-below}
 use Rattle.signals.proofs.Bools.{either}
 use Rattle.lanes.specs.declared.Offer.{Offer}
@@ -25,10 +25,10 @@ use Rattle.lanes.specs.Merge as ofMerge
 use Rattle.lanes.specs.Merge.{payloadAt, legalStrobes, allValid}
 use Rattle.lanes.specs.Split as ofSplit
 use Rattle.lanes.specs.Split.{readyAt, strobePast, allReady}
-use Rattle.lanes.specs.Wired.{Cycle, handed, fromInput, toBranch, overCycles, SameCycle, SameOrder, Wires, ApartIsEach, TogetherIsWhole}
-use Rattle.lanes.proofs.PerLane.{lane-entry, no-entry, lanes-alike}
+use Rattle.lanes.specs.Wired.{handed, fromInput, toBranch, SameCycle, SameOrder, Wires, ApartIsEach, TogetherIsWhole}
+use Rattle.lanes.proofs.PerLane.{lane-entry, no-entry}
 use Rattle.lanes.proofs.Digits.{pow-pos, strobes-fit, strobes-found, strobes-of-lanes, legal-below}
-use Rattle.lanes.proofs.Answers.{lanes-few, merge-accepts, merge-refuses-strobes, merge-refuses-lanes, split-accepts, split-refuses-lanes}
+use Rattle.lanes.proofs.Answers.{lanes-few, merge-accepts, merge-by, split-accepts, split-refuses-lanes, offers-none}
 
 -- ---- of payloads alone
 
@@ -76,24 +76,17 @@ agrees false true iv br p q valid ready same = sym (unready (record { valid = iv
 agrees false false iv br p q valid ready same = sym (unready (record { valid = iv; payload = q }))
 
 -- what a merge shows has no strobe past the lanes, so the split behind it is not refused for one
-no-strobe-past : (lanes : ℕ) (inputs : List Offer) (ready : Bool) → legalLanes lanes ≡ true →
-    strobePast lanes (ofMerge.answer lanes inputs ready .wide) ≡ false
-no-strobe-past lanes inputs ready l =
-    ⊎-elim
-    (λ s. ap past (merge-accepts lanes inputs ready l s) ∙ ⊎-elim (shows s) hides (either (allValid lanes inputs)))
-    (λ s. ap past (merge-refuses-strobes lanes inputs ready l s) ∙ none)
-    (either (legalStrobes lanes inputs))
+no-strobe-past : (lanes : ℕ) (inputs : List Offer) (ready : Bool) → strobePast lanes (ofMerge.answer lanes inputs ready .wide) ≡ false
+no-strobe-past lanes inputs ready =
+    merge-by lanes inputs ready (λ a. strobePast lanes (a .wide) ≡ false) (λ l s. ⊎-elim (shows s) hides (either (allValid lanes inputs))) (λ number. none)
   where
-    past : ofMerge.Answer → Bool
-    past a = strobePast lanes (a .wide)
-
     none : strobePast lanes wideZeros ≡ false
     none = lt-leb (16 ^ lanes) 0 (pow-pos lanes)
 
-    shows : legalStrobes lanes inputs ≡ true → allValid lanes inputs ≡ true → past (ofMerge.cycle lanes inputs ready) ≡ false
+    shows : legalStrobes lanes inputs ≡ true → allValid lanes inputs ≡ true → strobePast lanes (ofMerge.cycle lanes inputs ready .wide) ≡ false
     shows s v = rw v (lt-leb (16 ^ lanes) _ (strobes-fit (payloadAt inputs) lanes (legal-below inputs lanes s)))
 
-    hides : allValid lanes inputs ≡ false → past (ofMerge.cycle lanes inputs ready) ≡ false
+    hides : allValid lanes inputs ≡ false → strobePast lanes (ofMerge.cycle lanes inputs ready .wide) ≡ false
     hides v = rw v none
 
 -- where the two are not refused
@@ -131,57 +124,38 @@ module _ (lanes : ℕ) (inputs : List Offer) (readies : List Bool) (few : lanes 
           ap (λ (o : Offer). handed o (readyAt readies i)) (no-entry noOffer (λ j. offerWhen (v && r) (lane wide j)) lanes i h)
           ∙ sym (ap (handed (offerAt inputs i)) (no-entry false (λ j. r && v) lanes i h) ∙ unready (offerAt inputs i))
 
--- where each branch is offered nothing
-no-offer : (lanes i : ℕ) → lanes ≤ maxLanes → offerAt (perLane lanes noOffer (λ j. noOffer)) i ≡ noOffer
-no-offer lanes i few =
-    ⊎-elim
-    (λ t. lane-entry noOffer (λ j. noOffer) lanes i noOffer few (ltb-true i lanes t))
-    (λ f. no-entry noOffer (λ j. noOffer) lanes i (ltb-false i lanes f))
-    (either (ltb i lanes))
-
 pub same-cycle : SameCycle
 same-cycle lanes i c =
-    ⊎-elim (λ l. ⊎-elim (accepted l) (refused l) (either (legalStrobes lanes (c .inputs)))) illegal (either (legalLanes lanes))
+    subst Same (sym (c .merges))
+    (merge-by lanes (c .inputs) (c .split .ready) (λ m. c .split ≡ splitOf m → Same m) accepted refused (c .splits ∙ ap splitOf (c .merges)))
   where
-    -- where the branch is offered nothing and the input gets no ready neither has a handshake
-    neither : offerAt (c .split .branches) i ≡ noOffer → readyAt (c .merge .readies) i ≡ false → toBranch i c ≡ fromInput i c
-    neither b g =
-        ap (λ (o : Offer). handed o (readyAt (c .readies) i)) b
-        ∙ sym (ap (handed (offerAt (c .inputs) i)) g ∙ unready (offerAt (c .inputs) i))
+    splitOf : ofMerge.Answer → ofSplit.Answer
+    splitOf m = ofSplit.answer lanes (m .valid) (m .wide) (c .readies)
 
-    illegal : legalLanes lanes ≡ false → toBranch i c ≡ fromInput i c
-    illegal l =
-        neither
-        (ap (λ (a : ofSplit.Answer). offerAt (a .branches) i) (c .splits ∙ split-refuses-lanes lanes (c .merge .valid) (c .merge .wide) (c .readies) l)
-        ∙ no-entry noOffer (λ j. noOffer) 0 i (omega arith))
-        (ap (λ (a : ofMerge.Answer). readyAt (a .readies) i) (c .merges ∙ merge-refuses-lanes lanes (c .inputs) (c .split .ready) l)
-        ∙ no-entry false (λ j. false) 0 i (omega arith))
+    Same : ofMerge.Answer → Type 0
+    Same m = toBranch i c ≡ handed (offerAt (c .inputs) i) (readyAt (m .readies) i)
 
-    -- the split is not refused
-    splits : legalLanes lanes ≡ true → c .split ≡ ofSplit.cycle lanes (c .merge .valid) (c .merge .wide) (c .readies)
-    splits l =
-        c .splits
-        ∙ split-accepts lanes (c .merge .valid) (c .merge .wide) (c .readies) l
-        (ap (λ (a : ofMerge.Answer). strobePast lanes (a .wide)) (c .merges) ∙ no-strobe-past lanes (c .inputs) (c .split .ready) l)
+    -- the merge is refused: the branch is offered nothing, and the input gets no ready
+    refused : (number : ℕ) → c .split ≡ splitOf (ofMerge.refused number) → Same (ofMerge.refused number)
+    refused number splits =
+        ap (λ (o : Offer). handed o (readyAt (c .readies) i))
+        (ap (λ (a : ofSplit.Answer). offerAt (a .branches) i) splits ∙ offers-none lanes false wideZeros (c .readies) refl i)
+        ∙ sym (ap (handed (offerAt (c .inputs) i)) (no-entry false (λ j. false) 0 i (omega arith)) ∙ unready (offerAt (c .inputs) i))
 
-    refused : legalLanes lanes ≡ true → legalStrobes lanes (c .inputs) ≡ false → toBranch i c ≡ fromInput i c
-    refused l s =
-        let merges : c .merge ≡ ofMerge.refused 2 = c .merges ∙ merge-refuses-strobes lanes (c .inputs) (c .split .ready) l s in
-        neither
-        (ap (λ (a : ofSplit.Answer). offerAt (a .branches) i)
-        (splits l ∙ ap (λ (a : ofMerge.Answer). ofSplit.cycle lanes (a .valid) (a .wide) (c .readies)) merges)
-        ∙ no-offer lanes i (lanes-few lanes l))
-        (ap (λ (a : ofMerge.Answer). readyAt (a .readies) i) merges ∙ no-entry false (λ j. false) 0 i (omega arith))
-
-    accepted : legalLanes lanes ≡ true → legalStrobes lanes (c .inputs) ≡ true → toBranch i c ≡ fromInput i c
-    accepted l s =
-        let merges : c .merge ≡ ofMerge.cycle lanes (c .inputs) (c .split .ready) = c .merges ∙ merge-accepts lanes (c .inputs) (c .split .ready) l s in
-        let ready : c .split .ready ≡ allReady lanes (c .readies) = ap (λ (a : ofSplit.Answer). a .ready) (splits l) in
-        ap (λ (a : ofSplit.Answer). handed (offerAt (a .branches) i) (readyAt (c .readies) i))
-        (splits l ∙ ap (λ (a : ofMerge.Answer). ofSplit.cycle lanes (a .valid) (a .wide) (c .readies)) merges)
+    -- it is not, and so neither is the split
+    accepted : legalLanes lanes ≡ true → legalStrobes lanes (c .inputs) ≡ true → c .split ≡ splitOf (ofMerge.cycle lanes (c .inputs) (c .split .ready)) →
+        Same (ofMerge.cycle lanes (c .inputs) (c .split .ready))
+    accepted l s splits =
+        let m = ofMerge.cycle lanes (c .inputs) (c .split .ready) in
+        let past : strobePast lanes (m .wide) ≡ false =
+        ap (λ (a : ofMerge.Answer). strobePast lanes (a .wide)) (sym (merge-accepts lanes (c .inputs) (c .split .ready) l s))
+        ∙ no-strobe-past lanes (c .inputs) (c .split .ready) in
+        let cycles : c .split ≡ ofSplit.cycle lanes (m .valid) (m .wide) (c .readies) = splits ∙ split-accepts lanes (m .valid) (m .wide) (c .readies) l past in
+        ap (λ (a : ofSplit.Answer). handed (offerAt (a .branches) i) (readyAt (c .readies) i)) cycles
         ∙ cycle-same lanes (c .inputs) (c .readies) (lanes-few lanes l) s i
         ∙ sym
-        (ap (λ (a : ofMerge.Answer). handed (offerAt (c .inputs) i) (readyAt (a .readies) i)) (merges ∙ ap (ofMerge.cycle lanes (c .inputs)) ready))
+        (ap (λ (ready : Bool). handed (offerAt (c .inputs) i) (readyAt (ofMerge.cycle lanes (c .inputs) ready .readies) i))
+        (ap (λ (a : ofSplit.Answer). a .ready) cycles))
 
 pub same-order : SameOrder
 same-order lanes i [] = refl
@@ -211,7 +185,7 @@ wires lanes inputs readies = (
     same =
         ⊎-elim
         (λ l. ap readyIn (split-accepts lanes false wideZeros readies l (lt-leb (16 ^ lanes) 0 (pow-pos lanes)))
-        ∙ sym (ap readyIn (split-accepts lanes (merge .valid) (merge .wide) readies l (no-strobe-past lanes inputs ready l))))
+        ∙ sym (ap readyIn (split-accepts lanes (merge .valid) (merge .wide) readies l (no-strobe-past lanes inputs ready))))
         (λ l. ap readyIn (split-refuses-lanes lanes false wideZeros readies l)
         ∙ sym (ap readyIn (split-refuses-lanes lanes (merge .valid) (merge .wide) readies l)))
         (either (legalLanes lanes))

@@ -1,7 +1,6 @@
 // What a split reads of its source and of its first n branches, and what it offers them.
 ghost use mathlib.Core.Path.{_≡_};
-ghost use Prim.Native.Nat.{_≤_, _<_, _^_};
-ghost use lib.Dec.{leb};
+ghost use Prim.Native.Nat.{_≤_, _<_};
 ghost use lib.ListN.{length};
 ghost use Rattle.lanes.specs.Lanes.{maxLanes, perLane};
 ghost use Rattle.lanes.specs.Wide.{lane};

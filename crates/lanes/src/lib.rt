@@ -7,7 +7,7 @@ mod strobes; // strobes.rt: where the strobes of a lane lie
 
 ghost use mathlib.Core.Path.{_≡_};
 ghost use Prim.Native.Nat.{_≤_};
-ghost use mathlib.Core.Bool.{true, false};
+ghost use mathlib.Core.Bool.{true};
 ghost use Rattle.signals.specs.Refusals.{numberOf};
 ghost use Rattle.lanes.specs.Lanes.{maxLanes, legalLanes};
 ghost use Rattle.lanes.specs.Merge as ofMerge;
