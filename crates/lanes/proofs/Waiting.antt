@@ -8,7 +8,7 @@ use mathlib.Core.List.{List, [], _∷_, _++_, map}
 use mathlib.Core.Logic.{⊎-elim}
 use mathlib.Core.Path.{_≡_, refl, sym, _∙_, ap}
 use lib.ListN.{List·getD-map}
-use borrow.Author.Tests.{not-false, le-leb, lt-ltb}
+use borrow.Author.Tests.{not-false, le-leb}
 use Rattle.signals.specs.declared.Payload.{Payload}
 use Rattle.signals.specs.Payloads.{maxStrb, legalStrb}
 use Rattle.signals.proofs.Below.{each-below, every-below}

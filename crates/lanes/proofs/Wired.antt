@@ -25,7 +25,7 @@ use Rattle.lanes.specs.Merge as ofMerge
 use Rattle.lanes.specs.Merge.{payloadAt, legalStrobes, allValid}
 use Rattle.lanes.specs.Split as ofSplit
 use Rattle.lanes.specs.Split.{readyAt, strobePast, allReady}
-use Rattle.lanes.specs.Wired.{handed, fromInput, toBranch, SameCycle, SameOrder, Wires, ApartIsEach, TogetherIsWhole}
+use Rattle.lanes.specs.Wired.{handed, toBranch, SameCycle, SameOrder, Wires, ApartIsEach, TogetherIsWhole}
 use Rattle.lanes.proofs.PerLane.{lane-entry, no-entry}
 use Rattle.lanes.proofs.Digits.{pow-pos, strobes-fit, strobes-found, strobes-of-lanes, legal-below}
 use Rattle.lanes.proofs.Answers.{lanes-few, merge-accepts, merge-by, split-accepts, split-refuses-lanes, offers-none}

@@ -1,7 +1,9 @@
 -- `floealder_split` meets its contract: it gives what `lanes::split` ensures, in numbers. Assumes nothing.
 use Prim.Native.Nat.{ℕ}
-use mathlib.Core.Path.{_∙_, ap}
+use mathlib.Core.Path.{_≡_, _∙_, ap}
 use borrow.Author.Needs.{needs}
+use Rattle.lanes.specs.Split as ofSplit
+use Rattle.lanes.specs.Promises.{splitAnswer}
 use Rattle.exports.specs.declared.wide.SplitStep.{SplitStep}
 use Rattle.exports.specs.Lanes.{splitNumbers}
 use Rattle.exports.proofs.wide.floealder_split.Statement.{statement}
@@ -17,8 +19,10 @@ returns : tie.Need-returns
 returns c =
     let split = c .before .before .split in
     let s = split .result in
+    let a = c .before .before .before .before .args in
+    let answers : splitAnswer s ≡ ofSplit.answer (a .lanes) (a .valid) (a .wide) (a .readies .each) = split .ensures in
     ap {B = SplitStep} (λ (n : ℕ). record { refusal = n; ready = s .ready; branches = s .branches }) (c .refusal .ensures)
-    ∙ ap splitNumbers (split .ensures)
+    ∙ ap splitNumbers answers
 
 pub floealder-split-spec : {M : Type 1} → statement M
 floealder-split-spec = tie.close (tie.spec split-requires refusal-requires returns)
