@@ -32,6 +32,7 @@ pub record Answer : Type 0 where
   pub wide : Wide
   pub readies : List Bool
 
+-- a cycle that is not refused
 abbrev pub cycle : (lanes : ℕ) → (inputs : List Offer) → (ready : Bool) → Answer
 cycle lanes inputs ready =
     record {
@@ -41,6 +42,7 @@ cycle lanes inputs ready =
       readies = perLane lanes false (λ i. ready && allValid lanes inputs);
     }
 
+-- refused, every output is 0
 abbrev pub refused : (number : ℕ) → Answer
 refused number =
     record { refusal = some number; valid = false; wide = wideZeros; readies = perLane 0 false (λ i. false) }
@@ -53,5 +55,6 @@ abbrev pub answerBy : (refusal : Option ℕ) → (lanes : ℕ) → (inputs : Lis
 answerBy none lanes inputs ready = cycle lanes inputs ready
 answerBy (some number) lanes inputs ready = refused number
 
+-- what `merge` answers to any inputs
 unfoldable pub answer : (lanes : ℕ) → (inputs : List Offer) → (ready : Bool) → Answer
 answer lanes inputs ready = answerBy (firstOf (grounds lanes inputs)) lanes inputs ready

@@ -1,4 +1,4 @@
--- What a stream's source offers in one cycle: valid, and a payload that is 0 when valid is 0. Assumes nothing.
+-- What a stream's source offers in one cycle. Assumes nothing.
 use Prim.Native.Nat.{ℕ}
 use mathlib.Core.Bool.{Bool, true, false, cond}
 use mathlib.Core.List.{List}
@@ -7,9 +7,11 @@ use Rattle.signals.specs.declared.Payload.{Payload}
 use Rattle.signals.specs.Payloads.{zeros}
 use Rattle.lanes.specs.declared.Offer.{Offer}
 
+-- nothing: valid is 0, and so is the payload shown
 abbrev pub noOffer : Offer
 noOffer = record { valid = false; payload = zeros }
 
+-- a payload when b is true, else nothing
 abbrev pub offerWhen : Bool → Payload → Offer
 offerWhen b p = cond b (record { valid = true; payload = p }) noOffer
 

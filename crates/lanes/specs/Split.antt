@@ -22,7 +22,7 @@ readyAt readies i = getD readies i false
 abbrev pub allReady : (lanes : ℕ) → (readies : List Bool) → Bool
 allReady lanes readies = everyBelow (readyAt readies) lanes
 
--- a wide strb bit past the lanes is set
+-- a wide strb bit past the lanes is set, which is one from 4 times their number on
 abbrev pub strobePast : (lanes : ℕ) → Wide → Bool
 strobePast lanes wide = leb (16 ^ lanes) (wide .strb)
 
@@ -32,6 +32,7 @@ pub record Answer : Type 0 where
   pub ready : Bool
   pub branches : List Offer
 
+-- a cycle that is not refused
 abbrev pub cycle : (lanes : ℕ) → (valid : Bool) → Wide → (readies : List Bool) → Answer
 cycle lanes valid wide readies =
     record {
@@ -40,6 +41,7 @@ cycle lanes valid wide readies =
       branches = perLane lanes noOffer (λ i. offerWhen (valid && allReady lanes readies) (lane wide i));
     }
 
+-- refused, every output is 0
 abbrev pub refused : (number : ℕ) → Answer
 refused number = record { refusal = some number; ready = false; branches = perLane 0 noOffer (λ i. noOffer) }
 
@@ -51,5 +53,6 @@ abbrev pub answerBy : (refusal : Option ℕ) → (lanes : ℕ) → (valid : Bool
 answerBy none lanes valid wide readies = cycle lanes valid wide readies
 answerBy (some number) lanes valid wide readies = refused number
 
+-- what `split` answers to any source and branches
 unfoldable pub answer : (lanes : ℕ) → (valid : Bool) → Wide → (readies : List Bool) → Answer
 answer lanes valid wide readies = answerBy (firstOf (grounds lanes wide)) lanes valid wide readies

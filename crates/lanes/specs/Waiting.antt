@@ -48,8 +48,8 @@ fifoIn lanes qs valid wide i sink =
     let offer : Offer = offerAt (answer lanes valid wide (map ready qs) .branches) i in
     stepOf (well (behind qs i)) (offer .valid) (offer .payload) sink false
 
--- The source gets ready whether it is valid or not; and what it shows goes into the FIFOs in this very cycle, each its lane, and is shown
--- to their sinks in the next, whether they are ready or not.
+-- The source gets ready whether it is valid or not; what it shows goes into the FIFOs in this very cycle, each its lane; and in the next
+-- each FIFO shows its sink a payload, whether that sink is ready or not.
 pub record TakenAtOnce (lanes : ℕ) (qs : List Queue) (wide : Wide) : Type 0 where
   pub source-ready : (valid : Bool) → answer lanes valid wide (map ready qs) .ready ≡ true
   -- the readies that the split is given are those that the FIFOs answer in this cycle

@@ -92,6 +92,7 @@ pub fn split(lanes: u8, valid: bool, wide: Wide, readies: [bool; MAX_LANES]) -> 
 }
 
 impl MergeCycle {
+    // Every output is 0.
     fn refused(why: Refusal) -> MergeCycle
         ensures { λ r. ⌜ mergeAnswer r ≡ ofMerge.refused (numberOf why) ⌝ }
     {
@@ -124,6 +125,7 @@ impl MergeCycle {
 }
 
 impl SplitCycle {
+    // Every output is 0.
     fn refused(why: Refusal) -> SplitCycle
         ensures { λ r. ⌜ splitAnswer r ≡ ofSplit.refused (numberOf why) ⌝ }
     {

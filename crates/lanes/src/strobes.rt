@@ -4,10 +4,10 @@ ghost use Prim.Native.Nat.{_≤_, _^_};
 ghost use Rattle.lanes.specs.Lanes.{maxLanes};
 use super::MAX_LANES;
 
-// Four strobes for a lane: so many values they have.
+// How many values the four strobes of a lane have.
 pub(crate) const STROBES: u32 = 16;
 
-// What the lowest strobe of each lane counts for, and behind them what none counts for.
+// What the lowest strobe of each lane counts for in strb, and last what one past four lanes would.
 const WEIGHTS: [u32; MAX_LANES + 1] = [1, 16, 256, 4096, 65536];
 
 pub(crate) fn weight(i: usize) -> u32

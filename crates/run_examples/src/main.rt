@@ -1,9 +1,11 @@
 // Runs the Run examples of document 01, "Bench examples": the depths of a FIFO and the length of a trace that are accepted; for
 // request T-05, bursts longer than a trace; for request T-06, new and handed-in FIFOs and chains at their limits; for request T-08,
-// early-stall FIFOs and a mixed chain; for request T-09, a chain's run with a clear in its midst; and, for request T-12, when held payloads
-// are delivered.
+// early-stall FIFOs and a mixed chain; for request T-09, a chain's run with a clear in its midst; for request T-12, when held payloads
+// are delivered; and, for request T-01, merges and splits of two and of four lanes.
 //
 // The examples that are claims about the definitions are those of the crate `examples`.
+mod wide; // wide.rt: merges and splits
+
 use chain::Chain;
 use fifo::Fifo;
 use fifo::MAX_DEPTH;
@@ -296,4 +298,6 @@ fn main() {
     run_burst(MAX_SEEN, &control[..0], &words[..0]);
     run_clear();
     run_times();
+    wide::run_merges();
+    wide::run_splits();
 }
