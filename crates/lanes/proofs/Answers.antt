@@ -5,10 +5,11 @@ use mathlib.Core.Bool.{Bool, true, false, cond, _&&_, false≢true}
 use mathlib.Core.List.{List}
 use mathlib.Core.Logic.{⊎-elim}
 use mathlib.Core.Option.{none}
-use mathlib.Core.Path.{_≡_, sym, _∙_, ap, subst}
+use mathlib.Core.Path.{_≡_, refl, sym, _∙_, ap, subst}
 use lib.Dec.{eqb, ltb}
-use borrow.Author.Tests.{eqb-true, ltb-true, ltb-false}
-use Rattle.signals.proofs.Bools.{either, both}
+use borrow.Author.Tests.{eqb-true, ltb-true}
+use Rattle.signals.specs.declared.Payload.{Payload}
+use Rattle.signals.proofs.Bools.{either}
 use Rattle.lanes.specs.declared.Offer.{Offer}
 use Rattle.lanes.specs.declared.Wide.{Wide}
 use Rattle.lanes.specs.Lanes.{maxLanes, legalLanes, perLane}
@@ -16,7 +17,7 @@ use Rattle.lanes.specs.Offers.{noOffer, offerWhen, offerAt}
 use Rattle.lanes.specs.Wide.{lane, together, wideZeros}
 use Rattle.lanes.specs.Merge as ofMerge
 use Rattle.lanes.specs.Split as ofSplit
-use Rattle.lanes.proofs.PerLane.{lane-entry, no-entry}
+use Rattle.lanes.proofs.PerLane.{entry-or-nothing, no-entry}
 
 -- two or four are at most four
 pub lanes-few : (lanes : ℕ) → legalLanes lanes ≡ true → lanes ≤ maxLanes
@@ -97,39 +98,36 @@ module _ (lanes : ℕ) (valid : Bool) (wide : Wide) (readies : List Bool) where
   ready-all =
       split-by (λ a. a .ready ≡ true → ofSplit.allReady lanes readies ≡ true) (λ l s e. e) (λ number e. absurd (false≢true e))
 
-  -- a branch is offered something only when the source is valid and all branches are ready
-  pub offers-none : valid && ofSplit.allReady lanes readies ≡ false → (i : ℕ) → offerAt (ofSplit.answer lanes valid wide readies .branches) i ≡ noOffer
-  offers-none e i =
-      split-by (λ a. offerAt (a .branches) i ≡ noOffer)
-      (λ l s. ⊎-elim
-      (λ t. lane-entry noOffer entry lanes i noOffer (lanes-few lanes l) (ltb-true i lanes t)
-      ∙ ap (λ (b : Bool). offerWhen b (lane wide i)) e)
-      (λ f. no-entry noOffer entry lanes i (ltb-false i lanes f))
-      (either (ltb i lanes)))
-      (λ number. no-entry noOffer (λ j. noOffer) 0 i (omega arith))
-    where
-      entry : ℕ → Offer
-      entry j = offerWhen (valid && ofSplit.allReady lanes readies) (lane wide j)
+  -- branch i of a cycle that is not refused, at a lane and past the lanes
+  pub branch : legalLanes lanes ≡ true → (i : ℕ) →
+      offerAt (ofSplit.cycle lanes valid wide readies .branches) i
+      ≡ cond (ltb i lanes) (offerWhen (valid && ofSplit.allReady lanes readies) (lane wide i)) noOffer
+  branch l i =
+      entry-or-nothing noOffer (λ j. offerWhen (valid && ofSplit.allReady lanes readies) (lane wide j)) lanes i (lanes-few lanes l)
 
-  -- and only where it is one of the lanes
-  pub offered-lane : (i : ℕ) → offerAt (ofSplit.answer lanes valid wide readies .branches) i .valid ≡ true → i < lanes
-  offered-lane i =
-      split-by (λ a. offerAt (a .branches) i .valid ≡ true → i < lanes)
-      (λ l s e. ⊎-elim
-      (λ t. ltb-true i lanes t)
-      (λ f. absurd (false≢true (sym (ap validIn (no-entry noOffer entry lanes i (ltb-false i lanes f))) ∙ e)))
-      (either (ltb i lanes)))
-      (λ number e. absurd (false≢true (sym (ap validIn (no-entry noOffer (λ j. noOffer) 0 i (omega arith))) ∙ e)))
+  -- a branch is offered something only where it is one of the lanes, and only when the source is valid and all branches are ready
+  pub offered : (i : ℕ) → offerAt (ofSplit.answer lanes valid wide readies .branches) i .valid ≡ true →
+      (i < lanes) × (valid && ofSplit.allReady lanes readies ≡ true)
+  offered i =
+      split-by (λ a. offerAt (a .branches) i .valid ≡ true → (i < lanes) × (valid && ofSplit.allReady lanes readies ≡ true))
+      (λ l s e. let w = made (ltb i lanes) (valid && ofSplit.allReady lanes readies) (lane wide i) (sym (ap validIn (branch l i)) ∙ e) in
+      (ltb-true i lanes (w .0), w .1))
+      (λ number e. absurd (false≢true (sym (ap validIn (no-entry noOffer (λ j. noOffer) 0 i (omega arith) (omega arith))) ∙ e)))
     where
-      entry : ℕ → Offer
-      entry j = offerWhen (valid && ofSplit.allReady lanes readies) (lane wide j)
-
       validIn : Offer → Bool
       validIn o = o .valid
 
-  pub offered-ready : (i : ℕ) → offerAt (ofSplit.answer lanes valid wide readies .branches) i .valid ≡ true → ofSplit.allReady lanes readies ≡ true
-  offered-ready i e =
-      ⊎-elim
-      (λ t. both valid (ofSplit.allReady lanes readies) t .1)
-      (λ f. absurd (false≢true (sym (ap (λ (o : Offer). o .valid) (offers-none f i)) ∙ e)))
-      (either (valid && ofSplit.allReady lanes readies))
+      made : (t b : Bool) (p : Payload) → cond t (offerWhen b p) noOffer .valid ≡ true → (t ≡ true) × (b ≡ true)
+      made true true p e = (refl, refl)
+      made true false p e = absurd (false≢true e)
+      made false b p e = absurd (false≢true e)
+
+  pub offers-none : valid && ofSplit.allReady lanes readies ≡ false → (i : ℕ) → offerAt (ofSplit.answer lanes valid wide readies .branches) i ≡ noOffer
+  offers-none e i =
+      split-by (λ a. offerAt (a .branches) i ≡ noOffer)
+      (λ l s. branch l i ∙ ap (λ (b : Bool). cond (ltb i lanes) (offerWhen b (lane wide i)) noOffer) e ∙ neither (ltb i lanes))
+      (λ number. no-entry noOffer (λ j. noOffer) 0 i (omega arith) (omega arith))
+    where
+      neither : (t : Bool) → cond t noOffer noOffer ≡ noOffer
+      neither true = refl
+      neither false = refl

@@ -21,11 +21,11 @@ use Rattle.lanes.specs.Offers.{offerAt}
 use Rattle.lanes.specs.Wide.{lane, together, wideZeros}
 use Rattle.lanes.specs.Merge as ofMerge
 use Rattle.lanes.specs.Merge.{payloadAt, legalStrobes, allValid}
-use Rattle.lanes.specs.Split.{readyAt}
+use Rattle.lanes.specs.Split.{readyAt, allReady}
 use Rattle.lanes.specs.Keeping.{seen, Keeps, mergeIn, outputTrace, MergeKeepsRules, branchTrace, NoBranchStalls, BranchesKeepRules}
 use Rattle.lanes.proofs.PerLane.{lane-entry, lanes-alike}
 use Rattle.lanes.proofs.Digits.{strobes-alike}
-use Rattle.lanes.proofs.Answers.{lanes-few, merge-accepts, merge-by, offered-lane, offered-ready}
+use Rattle.lanes.proofs.Answers.{lanes-few, merge-accepts, merge-by, offered}
 
 -- ---- merge
 
@@ -74,7 +74,7 @@ module _ (lanes : ℕ) (inputs next : List Offer) (ready ready-next : Bool) wher
     unready : (i : ℕ) → i < lanes → readyAt (first .readies) i ≡ false
     unready i h =
         ap (λ (a : ofMerge.Answer). readyAt (a .readies) i) (merge-accepts lanes inputs ready (w .0) (w .1))
-        ∙ lane-entry false (λ j. ready && allValid lanes inputs) lanes i false few h
+        ∙ lane-entry false (λ j. ready && allValid lanes inputs) lanes i few h
         ∙ ap (λ (b : Bool). b && allValid lanes inputs) left
 
     stalls : (i : ℕ) → i < lanes → stalled (before i) ≡ true
@@ -159,8 +159,8 @@ no-branch-stalls lanes given i c = rule4 (branchTrace lanes given i c .valid) (b
   where
     ready : branchTrace lanes given i c .valid ≡ true → branchTrace lanes given i c .ready ≡ true
     ready e =
-        each-below (readyAt (given c .readies)) lanes (offered-ready lanes (given c .valid) (given c .wide) (given c .readies) i e) i
-        (offered-lane lanes (given c .valid) (given c .wide) (given c .readies) i e)
+        let w = offered lanes (given c .valid) (given c .wide) (given c .readies) i e in
+        each-below (readyAt (given c .readies)) lanes (both (given c .valid) (allReady lanes (given c .readies)) (w .1) .1) i (w .0)
 
 pub branches-keep-rules : BranchesKeepRules
 branches-keep-rules lanes given i n zero h = (refl, (refl, tt))

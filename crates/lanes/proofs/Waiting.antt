@@ -27,7 +27,7 @@ use Rattle.lanes.specs.Split.{readyAt, allReady, strobePast}
 use Rattle.lanes.specs.Keeping.{Splitting, splitIn}
 use Rattle.lanes.specs.Waiting.{Waits, OneWaitingStopsAll, ReadyWithoutValid, behind, fifoIn, TakenAtOnce, FifosTakeAtOnce}
 use Rattle.lanes.proofs.PerLane.{lane-entry}
-use Rattle.lanes.proofs.Answers.{lanes-few, split-accepts, ready-all, offers-none, offered-ready}
+use Rattle.lanes.proofs.Answers.{lanes-few, split-accepts, ready-all, offered, offers-none}
 
 -- ---- a branch that waits
 
@@ -38,7 +38,7 @@ never-ready lanes given i h waits zero c g = absurd (omega arith)
 never-ready lanes given i h waits (suc n) c g =
     ⊎-elim
     (λ t. let seen = waits c t in
-    let all = offered-ready lanes (given (seen .0) .valid) (given (seen .0) .wide) (given (seen .0) .readies) i (seen .2) in
+    let all = both (given (seen .0) .valid) _ (offered lanes (given (seen .0) .valid) (given (seen .0) .wide) (given (seen .0) .readies) i (seen .2) .1) .1 in
     absurd
     (not-both (readyAt (given (seen .0) .readies) i) (each-below (readyAt (given (seen .0) .readies)) lanes all i h)
     (never-ready lanes given i h waits n (seen .0) (omega (arith, seen .1)))))
@@ -104,22 +104,22 @@ module _ (lanes : ℕ) (qs : List Queue) (wide : Wide) (l : legalLanes lanes ≡
       source valid = ap (λ (a : ofSplit.Answer). a .ready) (split-accepts lanes valid wide readies l s) ∙ all
 
       -- branch i's offer
-      offered : (valid : Bool) (i : ℕ) → i < lanes →
+      at-lane : (valid : Bool) (i : ℕ) → i < lanes →
           offerAt (ofSplit.answer lanes valid wide readies .branches) i ≡ offerWhen (valid && allReady lanes readies) (lane wide i)
-      offered valid i h =
+      at-lane valid i h =
           ap (λ (a : ofSplit.Answer). offerAt (a .branches) i) (split-accepts lanes valid wide readies l s)
-          ∙ lane-entry noOffer (λ j. offerWhen (valid && allReady lanes readies) (lane wide j)) lanes i noOffer (lanes-few lanes l) h
+          ∙ lane-entry noOffer (λ j. offerWhen (valid && allReady lanes readies) (lane wide j)) lanes i (lanes-few lanes l) h
 
       wire : (valid : Bool) (i : ℕ) → i < lanes → (sink : Bool) → fifoIn lanes qs valid wide i sink .ready ≡ readyAt readies i
       wire valid i h sink =
-          ap (λ (o : Offer). stepOf (well (behind qs i)) (o .valid) (o .payload) sink false .ready) (offered valid i h)
+          ap (λ (o : Offer). stepOf (well (behind qs i)) (o .valid) (o .payload) sink false .ready) (at-lane valid i h)
           ∙ ready-without-valid (behind qs i) _ sink _ (offer-legal (valid && allReady lanes readies) wide i)
           ∙ sym (ready-behind i)
 
       join : (i : ℕ) → i < lanes → (sink : Bool) → fifoIn lanes qs true wide i sink .next ≡ well (next (behind qs i) (lane wide i ∷ []) sink)
       join i h sink =
           ap (λ (o : Offer). stepOf (well (behind qs i)) (o .valid) (o .payload) sink false .next)
-          (offered true i h ∙ ap (λ (b : Bool). offerWhen b (lane wide i)) all)
+          (at-lane true i h ∙ ap (λ (b : Bool). offerWhen b (lane wide i)) all)
           ∙ ap (λ (a : ofFifo.Answer). a .next) (step-legal (behind qs i) true sink false (lane wide i) (lane-legal wide i))
 
       shows : (i : ℕ) → i < lanes → (sink : Bool) → isAny (shown (next (behind qs i) (lane wide i ∷ []) sink)) ≡ true

@@ -4,7 +4,7 @@
 use Prim.Native.Nat.{ℕ, _<_, _≤_, _^_}
 use native.Mathlib.Nat.{mod-eq-of-lt}
 use native.Mathlib.Omega.{arith}
-use mathlib.Core.Bool.{Bool, true, false, _&&_}
+use mathlib.Core.Bool.{Bool, true, false, cond, _&&_}
 use mathlib.Core.List.{List, [], _∷_, _++_}
 use mathlib.Core.Logic.{⊎-elim}
 use mathlib.Core.Path.{_≡_, refl, sym, _∙_, ap, ap₂, subst}
@@ -26,9 +26,9 @@ use Rattle.lanes.specs.Merge.{payloadAt, legalStrobes, allValid}
 use Rattle.lanes.specs.Split as ofSplit
 use Rattle.lanes.specs.Split.{readyAt, strobePast, allReady}
 use Rattle.lanes.specs.Wired.{handed, toBranch, SameCycle, SameOrder, Wires, ApartIsEach, TogetherIsWhole}
-use Rattle.lanes.proofs.PerLane.{lane-entry, no-entry}
+use Rattle.lanes.proofs.PerLane.{entry-or-nothing, lane-entry, no-entry}
 use Rattle.lanes.proofs.Digits.{pow-pos, strobes-fit, strobes-found, strobes-of-lanes, legal-below}
-use Rattle.lanes.proofs.Answers.{lanes-few, merge-accepts, merge-by, split-accepts, split-refuses-lanes, offers-none}
+use Rattle.lanes.proofs.Answers.{lanes-few, merge-accepts, merge-by, split-accepts, split-refuses-lanes, branch, offers-none}
 
 -- ---- of payloads alone
 
@@ -37,7 +37,7 @@ pub lane-of-together : (lanes : ℕ) (payload : ℕ → Payload) → lanes ≤ m
     (i : ℕ) → i < lanes → lane (together lanes payload) i ≡ payload i
 lane-of-together lanes payload few legal i h =
     ap₂ {C = Payload} (λ (word strb : ℕ). record { «data» = word; strb = strb })
-    (lane-entry 0 (λ j. payload j .«data») lanes i 0 few h)
+    (lane-entry 0 (λ j. payload j .«data») lanes i few h)
     (strobes-found payload lanes i legal h)
 
 pub apart-is-each : ApartIsEach
@@ -53,8 +53,8 @@ together-is-whole lanes w few size past fits =
     each : (i : ℕ) → i < maxLanes → getD (perLane lanes 0 (λ j. getD (w .«data») j 0)) i 0 ≡ getD (w .«data») i 0
     each i h =
         ⊎-elim
-        (λ t. lane-entry 0 (λ j. getD (w .«data») j 0) lanes i 0 few (ltb-true i lanes t))
-        (λ f. let l = ltb-false i lanes f in no-entry 0 (λ j. getD (w .«data») j 0) lanes i l ∙ sym (past i l))
+        (λ t. lane-entry 0 (λ j. getD (w .«data») j 0) lanes i few (ltb-true i lanes t))
+        (λ f. let l = ltb-false i lanes f in no-entry 0 (λ j. getD (w .«data») j 0) lanes i few l ∙ sym (past i l))
         (either (ltb i lanes))
 
 -- ---- in one cycle
@@ -67,13 +67,16 @@ unready o = of-valid (o .valid)
     of-valid true = refl
     of-valid false = refl
 
--- v, all inputs are valid, and r, all branches are ready: what an input with valid iv offers and what a branch with ready br is offered
-agrees : (v r iv br : Bool) (p q : Payload) → (v ≡ true → iv ≡ true) → (r ≡ true → br ≡ true) → (v ≡ true → p ≡ q) →
-    handed (offerWhen (v && r) p) br ≡ handed (record { valid = iv; payload = q }) (r && v)
-agrees true true iv br p q valid ready same = rw (valid refl, ready refl, same refl)
-agrees true false iv br p q valid ready same = sym (unready (record { valid = iv; payload = q }))
-agrees false true iv br p q valid ready same = sym (unready (record { valid = iv; payload = q }))
-agrees false false iv br p q valid ready same = sym (unready (record { valid = iv; payload = q }))
+-- t, it is one of the lanes; v, all inputs are valid; r, all branches are ready: what an input with valid iv hands over, and what its
+-- branch with ready br is handed
+agrees : (t v r iv br : Bool) (p q : Payload) → (t ≡ true → v ≡ true → iv ≡ true) → (t ≡ true → r ≡ true → br ≡ true) →
+    (t ≡ true → v ≡ true → p ≡ q) →
+    handed (cond t (offerWhen (v && r) p) noOffer) br ≡ handed (record { valid = iv; payload = q }) (cond t (r && v) false)
+agrees true true true iv br p q valid ready same = rw (valid refl refl, ready refl refl, same refl refl)
+agrees true true false iv br p q valid ready same = sym (unready (record { valid = iv; payload = q }))
+agrees true false true iv br p q valid ready same = sym (unready (record { valid = iv; payload = q }))
+agrees true false false iv br p q valid ready same = sym (unready (record { valid = iv; payload = q }))
+agrees false v r iv br p q valid ready same = sym (unready (record { valid = iv; payload = q }))
 
 -- what a merge shows has no strobe past the lanes, so the split behind it is not refused for one
 no-strobe-past : (lanes : ℕ) (inputs : List Offer) (ready : Bool) → strobePast lanes (ofMerge.answer lanes inputs ready .wide) ≡ false
@@ -89,40 +92,30 @@ no-strobe-past lanes inputs ready =
     hides : allValid lanes inputs ≡ false → strobePast lanes (ofMerge.cycle lanes inputs ready .wide) ≡ false
     hides v = rw v none
 
--- where the two are not refused
-module _ (lanes : ℕ) (inputs : List Offer) (readies : List Bool) (few : lanes ≤ maxLanes) (s : legalStrobes lanes inputs ≡ true) where
-  abbrev v : Bool
-  v = allValid lanes inputs
+-- where the two are not refused, at a lane and past the lanes
+cycle-same : (lanes : ℕ) (inputs : List Offer) (readies : List Bool) → legalLanes lanes ≡ true → legalStrobes lanes inputs ≡ true → (i : ℕ) →
+    let merge = ofMerge.cycle lanes inputs (allReady lanes readies) in
+    handed (offerAt (ofSplit.cycle lanes (merge .valid) (merge .wide) readies .branches) i) (readyAt readies i)
+    ≡ handed (offerAt inputs i) (readyAt (merge .readies) i)
+cycle-same lanes inputs readies l s i =
+    ap (λ (o : Offer). handed o (readyAt readies i)) (branch lanes v wide readies l i)
+    ∙ agrees (ltb i lanes) v r (offerAt inputs i .valid) (readyAt readies i) (lane wide i) (payloadAt inputs i)
+    (λ t e. each-below (λ j. offerAt inputs j .valid) lanes e i (ltb-true i lanes t))
+    (λ t e. each-below (readyAt readies) lanes e i (ltb-true i lanes t))
+    shows
+    ∙ sym (ap (handed (offerAt inputs i)) (entry-or-nothing false (λ j. r && v) lanes i (lanes-few lanes l)))
+  where
+    v : Bool
+    v = allValid lanes inputs
 
-  abbrev r : Bool
-  r = allReady lanes readies
+    r : Bool
+    r = allReady lanes readies
 
-  abbrev wide : Wide
-  wide = ofMerge.cycle lanes inputs r .wide
+    wide : Wide
+    wide = ofMerge.cycle lanes inputs r .wide
 
-  -- what an input hands over is what its branch is handed, at a lane and past the lanes
-  cycle-same : (i : ℕ) →
-      handed (offerAt (ofSplit.cycle lanes v wide readies .branches) i) (readyAt readies i)
-      ≡ handed (offerAt inputs i) (readyAt (ofMerge.cycle lanes inputs r .readies) i)
-  cycle-same i = ⊎-elim (λ t. inside (ltb-true i lanes t)) (λ f. outside (ltb-false i lanes f)) (either (ltb i lanes))
-    where
-      inside : i < lanes →
-          handed (offerAt (ofSplit.cycle lanes v wide readies .branches) i) (readyAt readies i)
-          ≡ handed (offerAt inputs i) (readyAt (ofMerge.cycle lanes inputs r .readies) i)
-      inside h =
-          ap (λ (o : Offer). handed o (readyAt readies i)) (lane-entry noOffer (λ j. offerWhen (v && r) (lane wide j)) lanes i noOffer few h)
-          ∙ agrees v r (offerAt inputs i .valid) (readyAt readies i) (lane wide i) (payloadAt inputs i)
-          (λ e. each-below (λ j. offerAt inputs j .valid) lanes e i h)
-          (λ e. each-below (readyAt readies) lanes e i h)
-          (λ e. rw e (lane-of-together lanes (payloadAt inputs) few (legal-below inputs lanes s) i h))
-          ∙ sym (ap (handed (offerAt inputs i)) (lane-entry false (λ j. r && v) lanes i false few h))
-
-      outside : lanes ≤ i →
-          handed (offerAt (ofSplit.cycle lanes v wide readies .branches) i) (readyAt readies i)
-          ≡ handed (offerAt inputs i) (readyAt (ofMerge.cycle lanes inputs r .readies) i)
-      outside h =
-          ap (λ (o : Offer). handed o (readyAt readies i)) (no-entry noOffer (λ j. offerWhen (v && r) (lane wide j)) lanes i h)
-          ∙ sym (ap (handed (offerAt inputs i)) (no-entry false (λ j. r && v) lanes i h) ∙ unready (offerAt inputs i))
+    shows : ltb i lanes ≡ true → v ≡ true → lane wide i ≡ payloadAt inputs i
+    shows t e = rw e (lane-of-together lanes (payloadAt inputs) (lanes-few lanes l) (legal-below inputs lanes s) i (ltb-true i lanes t))
 
 pub same-cycle : SameCycle
 same-cycle lanes i c =
@@ -140,7 +133,7 @@ same-cycle lanes i c =
     refused number splits =
         ap (λ (o : Offer). handed o (readyAt (c .readies) i))
         (ap (λ (a : ofSplit.Answer). offerAt (a .branches) i) splits ∙ offers-none lanes false wideZeros (c .readies) refl i)
-        ∙ sym (ap (handed (offerAt (c .inputs) i)) (no-entry false (λ j. false) 0 i (omega arith)) ∙ unready (offerAt (c .inputs) i))
+        ∙ sym (ap (handed (offerAt (c .inputs) i)) (no-entry false (λ j. false) 0 i (omega arith) (omega arith)) ∙ unready (offerAt (c .inputs) i))
 
     -- it is not, and so neither is the split
     accepted : legalLanes lanes ≡ true → legalStrobes lanes (c .inputs) ≡ true → c .split ≡ splitOf (ofMerge.cycle lanes (c .inputs) (c .split .ready)) →
@@ -152,7 +145,7 @@ same-cycle lanes i c =
         ∙ no-strobe-past lanes (c .inputs) (c .split .ready) in
         let cycles : c .split ≡ ofSplit.cycle lanes (m .valid) (m .wide) (c .readies) = splits ∙ split-accepts lanes (m .valid) (m .wide) (c .readies) l past in
         ap (λ (a : ofSplit.Answer). handed (offerAt (a .branches) i) (readyAt (c .readies) i)) cycles
-        ∙ cycle-same lanes (c .inputs) (c .readies) (lanes-few lanes l) s i
+        ∙ cycle-same lanes (c .inputs) (c .readies) l s i
         ∙ sym
         (ap (λ (ready : Bool). handed (offerAt (c .inputs) i) (readyAt (ofMerge.cycle lanes (c .inputs) ready .readies) i))
         (ap (λ (a : ofSplit.Answer). a .ready) cycles))

@@ -7,6 +7,7 @@ ghost use Rattle.lanes.specs.Wide.{lane};
 ghost use Rattle.lanes.specs.Split.{strobePast, allReady};
 ghost use Rattle.lanes.specs.Offers.{noOffer, offerWhen};
 use super::MAX_LANES;
+use super::NO_OFFER;
 use super::Offer;
 use super::Wide;
 use super::strobes::STROBES;
@@ -67,10 +68,7 @@ fn offer(offered: bool, wide: Wide, i: usize) -> Offer
             payload: lane(wide, i),
         };
     }
-    Offer {
-        valid: false,
-        payload: Payload { data: 0, strb: 0 },
-    }
+    NO_OFFER
 }
 
 // Each branch's lane, to all of them or to none.
@@ -78,11 +76,7 @@ pub(crate) fn offers(n: usize, offered: bool, wide: Wide) -> [Offer; MAX_LANES]
     requires { ⌜ n ≤ maxLanes ⌝ }
     ensures { λ r. ⌜ r ≡ perLane n noOffer (λ i. offerWhen offered (lane wide i)) ⌝ }
 {
-    let nothing = Offer {
-        valid: false,
-        payload: Payload { data: 0, strb: 0 },
-    };
-    let mut offers = [nothing; MAX_LANES];
+    let mut offers = [NO_OFFER; MAX_LANES];
     let mut i = 0;
     while i < n {
         offers[i] = offer(offered, wide, i);

@@ -6,6 +6,7 @@ ghost use Rattle.lanes.specs.Lanes.{maxLanes, perLane};
 ghost use Rattle.lanes.specs.Wide.{wideZeros, strobesBelow, together};
 ghost use Rattle.lanes.specs.Merge.{payloadAt, legalStrobes, allValid};
 use super::MAX_LANES;
+use super::NOTHING;
 use super::Offer;
 use super::Wide;
 use super::strobes::weight;
@@ -84,10 +85,7 @@ pub(crate) fn shown(n: usize, inputs: [Offer; MAX_LANES], valid: bool) -> Wide
             strb: strobes(n, inputs),
         };
     }
-    Wide {
-        data: [0; MAX_LANES],
-        strb: 0,
-    }
+    NOTHING
 }
 
 // The same ready to each of them.

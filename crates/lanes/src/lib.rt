@@ -41,6 +41,17 @@ pub struct Wide {
     pub strb: u16,
 }
 
+// What is offered, and what is shown, when valid is 0.
+const NO_OFFER: Offer = Offer {
+    valid: false,
+    payload: Payload { data: 0, strb: 0 },
+};
+
+const NOTHING: Wide = Wide {
+    data: [0; MAX_LANES],
+    strb: 0,
+};
+
 // What a merge shows its output, and the ready that it gives each input.
 pub struct MergeCycle {
     pub outcome: Outcome,
@@ -99,10 +110,7 @@ impl MergeCycle {
         MergeCycle {
             outcome: Outcome::Refused(why),
             valid: false,
-            wide: Wide {
-                data: [0; MAX_LANES],
-                strb: 0,
-            },
+            wide: NOTHING,
             readies: [false; MAX_LANES],
         }
     }
@@ -129,14 +137,10 @@ impl SplitCycle {
     fn refused(why: Refusal) -> SplitCycle
         ensures { λ r. ⌜ splitAnswer r ≡ ofSplit.refused (numberOf why) ⌝ }
     {
-        let nothing = Offer {
-            valid: false,
-            payload: Payload { data: 0, strb: 0 },
-        };
         SplitCycle {
             outcome: Outcome::Refused(why),
             ready: false,
-            branches: [nothing; MAX_LANES],
+            branches: [NO_OFFER; MAX_LANES],
         }
     }
 
