@@ -14,6 +14,7 @@ use Rattle.signals.proofs.Tables.{none-keeps}
 use Rattle.addressgen.specs.declared.Settings.{Settings}
 use Rattle.addressgen.specs.declared.State.{State}
 use Rattle.addressgen.specs.Stepping.{start, after}
+use Rattle.addressgen.specs.Overwriting.{overwritesItself}
 use Rattle.addressgen.specs.Run.{badMask, grounds, iterations, ranFor, answerTo, ranOf}
 use Rattle.addressgen.specs.Resuming.{AreOne, RunsResume, RunsFinish}
 use Rattle.addressgen.proofs.Stepping.{after-rises, after-adds, addresses-add}
@@ -28,8 +29,10 @@ module _ (s : Settings) (t : State) (n room : ℕ) where
       tells (some number) f = f
 
   -- with legal settings, ov at most total and room the answer is that of the iterations
-  ran-accepted : badMask s ≡ false → t .ov ≤ s .total → n ≤ room → ranOf s t n room ≡ ranFor s t (iterations s t n)
-  ran-accepted e h g = simp (e, le-ltb (s .total) (t .ov) h, le-ltb room n g)
+  ran-accepted :
+      badMask s ≡ false → overwritesItself s ≡ false → t .ov ≤ s .total → n ≤ room →
+      ranOf s t n room ≡ ranFor s t (iterations s t n)
+  ran-accepted e o h g = simp (e, o, le-ltb (s .total) (t .ov) h, le-ltb room n g)
 
 -- the smaller of n + m and what is left: first of n, then of m and what is left after that
 split-count : (n m total ov : ℕ) → min (n + m) (total - ov) ≡ min n (total - ov) + min m (total - (ov + min n (total - ov)))
@@ -69,9 +72,9 @@ pub runs-resume : RunsResume
 runs-resume s t n m room room′ room″ e h g =
     let k = no-ground s t n room e in
     let legal : t .ov ≤ s .total = omega (arith, ltb-false) in
-    let first = ran-accepted s t n room (k .0) legal (omega (arith, ltb-false)) in
-    let second = ran-accepted s (givenBack s t n) m room′ (k .0) (omega (arith, given-back-ov s t n)) h in
-    let whole = ran-accepted s t (n + m) room″ (k .0) legal g in
+    let first = ran-accepted s t n room (k .0) (k .1 .0) legal (omega (arith, ltb-false)) in
+    let second = ran-accepted s (givenBack s t n) m room′ (k .0) (k .1 .0) (omega (arith, given-back-ov s t n)) h in
+    let whole = ran-accepted s t (n + m) room″ (k .0) (k .1 .0) legal g in
     rw (first, second, whole) (are-one s t n m)
 
 -- the smaller of n and total is total exactly when n reaches it
@@ -82,8 +85,8 @@ reaches n total ov e =
     (either (leb total n))
 
 pub runs-finish : RunsFinish
-runs-finish s n room e h =
-    rw (ran-accepted s start n room e (omega arith) h)
+runs-finish s n room e o h =
+    rw (ran-accepted s start n room e o (omega arith) h)
     (record {
       accepted = refl;
       done = reaches n (s .total) (givenBack s start n .ov) (given-back-ov s start n);

@@ -8,6 +8,7 @@ use lib.Dec.{leb}
 use Rattle.addressgen.specs.declared.Settings.{Settings}
 use Rattle.addressgen.specs.declared.State.{State}
 use Rattle.addressgen.specs.Stepping.{start, addresses}
+use Rattle.addressgen.specs.Overwriting.{overwritesItself}
 use Rattle.addressgen.specs.Run.{badMask, Answer, ranOf}
 
 -- two runs from state t are one whole run: neither is refused, the counts add up, the addresses follow each other, and the
@@ -32,6 +33,8 @@ pub record DoneAtTotal (s : Settings) (n : ℕ) (run : Answer) : Type 0 where
   pub done : run .done ≡ leb (s .total) n
   pub count : s .total ≤ n → run .count ≡ s .total
 
--- so it is from the start state, with legal settings and enough room
+-- so it is from the start state, with settings that are not refused and enough room
 abbrev pub RunsFinish : Type 0
-RunsFinish = (s : Settings) (n room : ℕ) → badMask s ≡ false → n ≤ room → DoneAtTotal s n (ranOf s start n room)
+RunsFinish =
+    (s : Settings) (n room : ℕ) → badMask s ≡ false → overwritesItself s ≡ false → n ≤ room →
+    DoneAtTotal s n (ranOf s start n room)

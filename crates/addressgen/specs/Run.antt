@@ -13,6 +13,7 @@ use Rattle.addressgen.specs.declared.Settings.{Settings}
 use Rattle.addressgen.specs.declared.State.{State}
 use Rattle.addressgen.specs.declared.Ran.{Ran}
 use Rattle.addressgen.specs.Stepping.{bit0, bit1, after, addresses}
+use Rattle.addressgen.specs.Overwriting.{overwritesItself}
 
 -- the largest legal mask: two bits
 abbrev pub maxMask : ℕ
@@ -22,9 +23,9 @@ maxMask = 3
 abbrev pub badMask : Settings → Bool
 badMask s = ltb maxMask (s .mask) || bit0 s && eqb (s .d0) 0 || bit0 s && bit1 s && eqb (s .d1) 0
 
--- refusals 10, 6 and 7 in this order; 6: ov above total; 7: under n words of room
+-- refusals 10, 11, 6 and 7 in this order; 6: ov above total; 7: under n words of room
 abbrev pub grounds : Settings → State → ℕ → ℕ → List (Row ℕ)
-grounds s t n room = 10 ⇐ badMask s ∷ 6 ⇐ ltb (s .total) (t .ov) ∷ 7 ⇐ ltb room n ∷ []
+grounds s t n room = 10 ⇐ badMask s ∷ 11 ⇐ overwritesItself s ∷ 6 ⇐ ltb (s .total) (t .ov) ∷ 7 ⇐ ltb room n ∷ []
 
 -- What a run answers, in document 01's numbers: the refusal, if there is one, how many iterations it made, the state afterwards, and done.
 pub record Answer : Type 0 where

@@ -32,14 +32,32 @@ address s t =
     (cond (not (bit1 s)) (s .base ⊕ t .a0 ⊕ t .a1)
     (s .base ⊕ t .a0 ⊕ t .a1 ⊕ t .a2))
 
--- along dimension 0 if c0 < d0 or bit 0 is 0; else along dimension 1 if c1 < d1 or bit 1 is 0; else along dimension 2
+-- The three dimensions.
+pub data Dimension : Type 0 where
+  dimension0 : Dimension
+  dimension1 : Dimension
+  dimension2 : Dimension
+
+-- an iteration advances along dimension 0 if c0 < d0 or bit 0 is 0; else along dimension 1 if c1 < d1 or bit 1 is 0; else along
+-- dimension 2
+abbrev pub along : Settings → State → Dimension
+along s t =
+    cond (ltb (t .c0) (s .d0) || not (bit0 s)) dimension0
+    (cond (ltb (t .c1) (s .d1) || not (bit1 s)) dimension1
+    dimension2)
+
+-- the address of that dimension gains its stride, those of the lower ones return to 0; likewise the counters; ov gains 1
+abbrev pub advanced : Settings → State → Dimension → State
+advanced s t dimension0 =
+    record { a0 = t .a0 ⊕ s .s0; a1 = t .a1; a2 = t .a2; c0 = t .c0 ⊕ 1; c1 = t .c1; ov = t .ov + 1 }
+advanced s t dimension1 =
+    record { a0 = 0; a1 = t .a1 ⊕ s .s1; a2 = t .a2; c0 = 1; c1 = t .c1 ⊕ 1; ov = t .ov + 1 }
+advanced s t dimension2 =
+    record { a0 = 0; a1 = 0; a2 = t .a2 ⊕ s .s2; c0 = 1; c1 = 1; ov = t .ov + 1 }
+
+-- the state after one iteration
 abbrev pub next : Settings → State → State
-next s t =
-    cond (ltb (t .c0) (s .d0) || not (bit0 s))
-    (record { a0 = t .a0 ⊕ s .s0; a1 = t .a1; a2 = t .a2; c0 = t .c0 ⊕ 1; c1 = t .c1; ov = t .ov + 1 })
-    (cond (ltb (t .c1) (s .d1) || not (bit1 s))
-    (record { a0 = 0; a1 = t .a1 ⊕ s .s1; a2 = t .a2; c0 = 1; c1 = t .c1 ⊕ 1; ov = t .ov + 1 })
-    (record { a0 = 0; a1 = 0; a2 = t .a2 ⊕ s .s2; c0 = 1; c1 = 1; ov = t .ov + 1 }))
+next s t = advanced s t (along s t)
 
 -- the state after so many iterations
 abbrev pub after : Settings → State → ℕ → State

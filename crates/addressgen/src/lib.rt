@@ -3,10 +3,11 @@
 // Writes out "Address generator" of document 01.
 ghost use mathlib.Core.Path.{_≡_};
 ghost use mathlib.Core.List.{_++_};
-ghost use Prim.Native.Nat.{_-_, _≤_, _<_};
+ghost use Prim.Native.Nat.{_-_, _*_, _≤_, _<_};
 ghost use lib.ListN.{length, drop};
 ghost use Rattle.signals.specs.Refusals.{numberOf};
-ghost use Rattle.addressgen.specs.Stepping.{_⊕_, bit0, bit1, start, address, next, after, addresses};
+ghost use Rattle.addressgen.specs.Stepping.{_⊕_, bit0, bit1, start, address, next, after, addresses, dimension0, dimension1, dimension2};
+ghost use Rattle.addressgen.specs.Overwriting.{advances, overwritesItself};
 ghost use Rattle.addressgen.specs.Run.{badMask, iterations, answerOf, refusedRun, Generated};
 
 // The largest legal mask: two bits.
@@ -15,7 +16,8 @@ pub const MAX_MASK: u8 = 3;
 // The counters of dimensions 0 and 1 count from 1.
 const COUNT_FROM: u32 = 1;
 
-// Base address, lengths of dimensions 0 and 1, how many iterations there are, strides, and the dimension mask.
+// Base address, lengths of dimensions 0 and 1, how many iterations there are, strides, the dimension mask, and whether the transfer
+// is a store or a load.
 #[repr(C)]
 pub struct Settings {
     pub base: u32,
@@ -26,6 +28,7 @@ pub struct Settings {
     pub s1: u32,
     pub s2: u32,
     pub mask: u8,
+    pub store: bool,
 }
 
 // How far each dimension has come, the counters of dimensions 0 and 1, and how many iterations were made.
@@ -52,6 +55,13 @@ fn plus(x: u32, y: u32) -> u32
     ensures { λ r. ⌜ r ≡ x ⊕ y ⌝ }
 {
     std::num::wrapping_add_u32(x, y)
+}
+
+// An exact product.
+fn product(x: u32, y: u32) -> u64
+    ensures { λ r. ⌜ r ≡ x * y ⌝ }
+{
+    x as u64 * y as u64
 }
 
 impl State {
@@ -91,6 +101,42 @@ impl Settings {
         let bit0 = self.bit0();
         let bit1 = self.bit1();
         (MAX_MASK < self.mask) | (bit0 & (self.d0 == 0)) | (bit0 & bit1 & (self.d1 == 0))
+    }
+
+    // Whether some iteration before the last one advances along dimension 0.
+    fn advances0(self) -> bool
+        ensures { λ r. ⌜ r ≡ advances self dimension0 ⌝ }
+    {
+        let bit0 = self.bit0();
+        (!bit0 & (1 < self.total)) | (bit0 & (1 < self.d0) & (1 < self.total))
+    }
+
+    // Along dimension 1.
+    fn advances1(self) -> bool
+        ensures { λ r. ⌜ r ≡ advances self dimension1 ⌝ }
+    {
+        let bit0 = self.bit0();
+        let bit1 = self.bit1();
+        bit0 & (self.d0 < self.total) & !(bit0 & bit1 & (self.d1 == 1))
+    }
+
+    // Along dimension 2.
+    fn advances2(self) -> bool
+        ensures { λ r. ⌜ r ≡ advances self dimension2 ⌝ }
+    {
+        let bit0 = self.bit0();
+        let bit1 = self.bit1();
+        bit0 & bit1 & (product(self.d0, self.d1) < self.total as u64)
+    }
+
+    // Whether this is a store and a dimension that advances has stride 0.
+    fn overwrites_itself(self) -> bool
+        ensures { λ r. ⌜ r ≡ overwritesItself self ⌝ }
+    {
+        let in_place0 = self.advances0() & (self.s0 == 0);
+        let in_place1 = self.advances1() & (self.s1 == 0);
+        let in_place2 = self.advances2() & (self.s2 == 0);
+        self.store & (in_place0 | in_place1 | in_place2)
     }
 
     // The address that the next iteration yields.
@@ -188,6 +234,9 @@ pub fn run(settings: Settings, state: State, n: usize, out: &mut [u32]) -> Ran
 {
     if settings.bad_mask() {
         return refused(state, signals::Refusal::BadMask);
+    }
+    if settings.overwrites_itself() {
+        return refused(state, signals::Refusal::OverwritesItself);
     }
     if settings.total < state.ov {
         return refused(state, signals::Refusal::BadState);

@@ -58,6 +58,7 @@ pub enum Refusal {
     OutOfRange,
     BadText,
     BadMask,
+    OverwritesItself,
 }
 
 // How a call that answers with a state ended.
@@ -82,6 +83,7 @@ impl Refusal {
             Refusal::OutOfRange => 8,
             Refusal::BadText => 9,
             Refusal::BadMask => 10,
+            Refusal::OverwritesItself => 11,
         }
     }
 }
