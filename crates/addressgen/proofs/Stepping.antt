@@ -4,41 +4,23 @@ use Prim.Native.Nat.{ℕ, zero, suc, _+_}
 use native.Mathlib.Nat.{add-zero, add-suc}
 use native.Mathlib.Numerals.{add-one}
 use native.Mathlib.Omega.{arith}
-use mathlib.Core.Bool.{true, false, not, _||_}
 use mathlib.Core.List.{_++_, append-assoc, append-nil}
-use mathlib.Core.Logic.{⊎-elim}
-use mathlib.Core.Path.{_≡_}
-use lib.Dec.{ltb}
-use Rattle.signals.proofs.Bools.{either}
+use mathlib.Core.Path.{_≡_, refl}
 use Rattle.addressgen.specs.declared.Settings.{Settings}
 use Rattle.addressgen.specs.declared.State.{State}
-use Rattle.addressgen.specs.Stepping.{bit0, bit1, next, after, addresses}
+use Rattle.addressgen.specs.Stepping.{Dimension, dimension0, dimension1, dimension2, along, advanced, next, after, addresses}
 
 -- along whichever dimension, ov gains 1
-pub next-rises : (s : Settings) (t : State) → next s t .ov ≡ t .ov + 1
-next-rises s t = ⊎-elim along0 past0 (either (ltb (t .c0) (s .d0) || not (bit0 s)))
-  where
-    along0 : (ltb (t .c0) (s .d0) || not (bit0 s)) ≡ true → next s t .ov ≡ t .ov + 1
-    along0 e = simp e
-
-    along1 :
-        (ltb (t .c0) (s .d0) || not (bit0 s)) ≡ false → (ltb (t .c1) (s .d1) || not (bit1 s)) ≡ true →
-        next s t .ov ≡ t .ov + 1
-    along1 e f = simp (e, f)
-
-    along2 :
-        (ltb (t .c0) (s .d0) || not (bit0 s)) ≡ false → (ltb (t .c1) (s .d1) || not (bit1 s)) ≡ false →
-        next s t .ov ≡ t .ov + 1
-    along2 e f = simp (e, f)
-
-    past0 : (ltb (t .c0) (s .d0) || not (bit0 s)) ≡ false → next s t .ov ≡ t .ov + 1
-    past0 e = ⊎-elim (along1 e) (along2 e) (either (ltb (t .c1) (s .d1) || not (bit1 s)))
+advanced-rises : (s : Settings) (t : State) (d : Dimension) → advanced s t d .ov ≡ t .ov + 1
+advanced-rises s t dimension0 = refl
+advanced-rises s t dimension1 = refl
+advanced-rises s t dimension2 = refl
 
 module _ (s : Settings) (t : State) where
   -- and with each iteration
   pub after-rises : (n : ℕ) → after s t n .ov ≡ t .ov + n
   after-rises zero = omega arith
-  after-rises (suc n) = omega (arith, next-rises s (after s t n), after-rises n)
+  after-rises (suc n) = omega (arith, advanced-rises s (after s t n) (along s (after s t n)), after-rises n)
 
   -- one iteration more
   pub steps-on : (n : ℕ) (here there : State) → here ≡ after s t n → there ≡ next s here → there ≡ after s t (n + 1)

@@ -3,3 +3,4 @@ pub mod Stepping
 pub mod Overwriting
 pub mod Run
 pub mod Resuming
+pub mod Meaning

@@ -1,4 +1,4 @@
--- Request T-07: which dimensions advance, by the settings alone, and when a store overwrites itself, refusal 11. Assumes nothing.
+-- Request T-07: when a store overwrites itself, which is refused with 11. Assumes nothing.
 use Prim.Native.Nat.{ℕ, _*_}
 use mathlib.Core.Bool.{Bool, not, _&&_, _||_}
 use lib.Dec.{eqb, ltb}
@@ -10,14 +10,16 @@ stride s dimension0 = s .s0
 stride s dimension1 = s .s1
 stride s dimension2 = s .s2
 
--- the first with mask bit 0 clear and total above 1, or bit 0 set and both d0 and total above 1; the second with bit 0 set and
--- total above d0, unless both bits are set and d1 is 1; the third with both bits set and total above d0 times d1, the product exact
+-- whether a dimension advances, by the settings alone
 abbrev pub advances : Settings → Dimension → Bool
+-- s0's with mask bit 0 clear and total above 1, or bit 0 set and both d0 and total above 1
 advances s dimension0 = not (bit0 s) && ltb 1 (s .total) || bit0 s && ltb 1 (s .d0) && ltb 1 (s .total)
+-- s1's with bit 0 set and total above d0, unless both bits are set and d1 is 1
 advances s dimension1 = bit0 s && ltb (s .d0) (s .total) && not (bit0 s && bit1 s && eqb (s .d1) 1)
+-- s2's with both bits set and total above d0 times d1, the product exact
 advances s dimension2 = bit0 s && bit1 s && ltb (s .d0 * s .d1) (s .total)
 
--- it advances and has stride 0
+-- it advances, and its stride is 0
 abbrev pub advancesInPlace : Settings → Dimension → Bool
 advancesInPlace s d = advances s d && eqb (stride s d) 0
 

@@ -46,7 +46,7 @@ along s t =
     (cond (ltb (t .c1) (s .d1) || not (bit1 s)) dimension1
     dimension2)
 
--- the address of that dimension gains its stride, those of the lower ones return to 0; likewise the counters; ov gains 1
+-- a0 gains s0 and c0 gains 1; or a0 = 0, a1 gains s1, c0 = 1, c1 gains 1; or a0 = a1 = 0, a2 gains s2, c0 = c1 = 1; then ov gains 1
 abbrev pub advanced : Settings → State → Dimension → State
 advanced s t dimension0 =
     record { a0 = t .a0 ⊕ s .s0; a1 = t .a1; a2 = t .a2; c0 = t .c0 ⊕ 1; c1 = t .c1; ov = t .ov + 1 }

@@ -16,8 +16,8 @@ pub const MAX_MASK: u8 = 3;
 // The counters of dimensions 0 and 1 count from 1.
 const COUNT_FROM: u32 = 1;
 
-// Base address, lengths of dimensions 0 and 1, how many iterations there are, strides, the dimension mask, and whether the transfer
-// is a store or a load.
+// Base address, lengths of dimensions 0 and 1, how many iterations there are, strides, the dimension mask, and the mark: a store, or a
+// load.
 #[repr(C)]
 pub struct Settings {
     pub base: u32,
@@ -57,7 +57,7 @@ fn plus(x: u32, y: u32) -> u32
     std::num::wrapping_add_u32(x, y)
 }
 
-// An exact product.
+// A product that does not wrap.
 fn product(x: u32, y: u32) -> u64
     ensures { λ r. ⌜ r ≡ x * y ⌝ }
 {
