@@ -2,14 +2,14 @@
 -- advances along is named by its clause. A load has no such ground. Assumes nothing.
 use mathlib.Core.Bool.{Bool, true, false, _||_, or-true}
 use mathlib.Core.Logic.{⊎-elim}
-use mathlib.Core.Path.{_≡_, refl}
+use mathlib.Core.Path.{_≡_}
 use lib.Dec.{eqb}
 use borrow.Author.Tests.{eqb-true, eq-eqb}
 use Rattle.signals.proofs.Bools.{either, both}
 use Rattle.addressgen.specs.declared.Settings.{Settings}
 use Rattle.addressgen.specs.Stepping.{Dimension, dimension0, dimension1, dimension2}
 use Rattle.addressgen.specs.Overwriting.{stride, advances, advancesInPlace, overwritesItself}
-use Rattle.addressgen.specs.Meaning.{alongAt, AdvancesInPlace, OverwritesExactly, LoadsMayRepeat}
+use Rattle.addressgen.specs.Meaning.{AdvancesInPlace, OverwritesExactly, LoadsMayRepeat}
 use Rattle.addressgen.proofs.Advancing.{advances-exactly}
 
 -- a test that some dimension passes
@@ -38,17 +38,14 @@ overwrites-exactly s legal = (stands-still, refused)
     stands-still : overwritesItself s ≡ true → (s .store ≡ true) × AdvancesInPlace s
     stands-still e =
         let still = in-place s e in
-        let a = advances-exactly s (still .0) legal .0 (still .1) in (
-          both (s .store) _ e .0,
-          record { iteration = a .iteration; before-last = a .before-last; in-place = rw (a .goes-along) (still .2) },
-        )
+        let iteration = advances-exactly s (still .0) legal .0 (still .1) in
+        (both (s .store) _ e .0, record { dimension = still .0; iteration = iteration; in-place = still .2 })
 
     refused : (s .store ≡ true) × AdvancesInPlace s → overwritesItself s ≡ true
     refused h =
-        let a = h .1 in
-        let d = alongAt s (a .iteration) in
-        let advancing = advances-exactly s d legal .1 (record { iteration = a .iteration; before-last = a .before-last; goes-along = refl }) in
-        rw (h .0) (found (advancesInPlace s) d (rw (advancing, eq-eqb (stride s d) 0 (a .in-place))))
+        let d = h .1 .dimension in
+        let advancing = advances-exactly s d legal .1 (h .1 .iteration) in
+        rw (h .0) (found (advancesInPlace s) d (rw (advancing, eq-eqb (stride s d) 0 (h .1 .in-place))))
 
 pub loads-may-repeat : LoadsMayRepeat
 loads-may-repeat s t n room e = rw e

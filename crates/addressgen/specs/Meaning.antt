@@ -35,9 +35,9 @@ pub record Advances (s : Settings) (d : Dimension) : Type 0 where
 
 -- some iteration before the last one advances along a dimension whose stride is 0
 pub record AdvancesInPlace (s : Settings) : Type 0 where
-  pub iteration : ℕ
-  pub before-last : iteration + 1 < s .total
-  pub in-place : stride s (alongAt s iteration) ≡ 0
+  pub dimension : Dimension
+  pub iteration : Advances s dimension
+  pub in-place : stride s dimension ≡ 0
 
 -- two iterations yield the same address
 pub record YieldsTwice (s : Settings) : Type 0 where

@@ -1,9 +1,10 @@
--- Document 01, "Bench examples": P1 to P12, P4 and P5 with null bytes between as request T-04 asks, and C1 to C6 with clear cycles
--- as request T-09 asks, as one list of questions with the answers that the papers give to them, and one claim: these are the
--- definitions' answers. It is checked by computation. Assumes nothing.
+-- Document 01, "Bench examples": P1 to P12, P4 and P5 with null bytes between as request T-04 asks, C1 to C6 with clear cycles as
+-- request T-09 asks, and S1 to S8 with stores as request T-07 asks, as one list of questions with the answers that the papers give
+-- to them, and one claim: these are the definitions' answers. It is checked by computation. Assumes nothing.
 use Prim.Native.Nat.{ℕ}
 use mathlib.Core.Bool.{Bool, true, false}
 use mathlib.Core.List.{List, [], _∷_, map}
+use mathlib.Core.Option.{Option, none, some}
 use mathlib.Core.Path.{_≡_, refl}
 use lib.ListN.{length}
 use Rattle.signals.specs.Judging.{clean, broken}
@@ -26,10 +27,11 @@ pub data Question : Type 0 where
   generator : Settings → ℕ → Question
 
 -- a verdict with the handshakes, the clear cycles, 0 for a memory trace, and whether the trace is open, false for a stream's;
--- or the iteration count and the addresses
+-- or the iteration count and the addresses, or the refusal of a run
 pub data Answer : Type 0 where
   judged : Judgement → (clears : ℕ) → (isOpen : Bool) → Answer
   yielded : (count : ℕ) → List ℕ → Answer
+  notRun : (refusal : ℕ) → Answer
 
 abbrev isClean : (handshakes clears : ℕ) → (isOpen : Bool) → Answer
 isClean handshakes clears isOpen = judged (record { verdict = written.judged clean; handshakes = handshakes }) clears isOpen
@@ -54,15 +56,16 @@ streamAnswer a = judged (a .judgement) (a .clears) false
 abbrev memAnswer : mem-checker.Answer → Answer
 memAnswer a = judged (a .judgement) 0 (a .«open»)
 
-abbrev generatorAnswer : Settings → (count : ℕ) → Answer
-generatorAnswer s count = yielded count (addresses s start count)
+abbrev generatorAnswer : Settings → (count : ℕ) → (refusal : Option ℕ) → Answer
+generatorAnswer s count none = yielded count (addresses s start count)
+generatorAnswer s count (some n) = notRun n
 
 -- the definitions' answer; of a memory trace's data and r_data only the lengths count, and the generator's buffer has n words
 abbrev pub answer : Question → Answer
 answer (stream seqOn cycles) = streamAnswer (checkStream (firsts cycles) (seconds cycles) seqOn)
 answer (memory protocol cycles) =
     memAnswer (checkMem protocol (firsts cycles) (seconds cycles) (length cycles) (length cycles))
-answer (generator s n) = generatorAnswer s (ranOf s start n n .count)
+answer (generator s n) = generatorAnswer s (ranOf s start n n .count) (ranOf s start n n .refusal)
 
 -- a question with the answer that the papers give to it
 pub record Example : Type 0 where
@@ -73,13 +76,18 @@ infix 80 _gives_
 abbrev pub _gives_ : Question → Answer → Example
 question gives expected = record { question = question; expected = expected }
 
--- the settings of P9 to P11, which differ in the mask alone
+-- the settings of P9 to P11, which are loads and differ in the mask alone
 abbrev p9Settings : (mask : ℕ) → Settings
 p9Settings mask =
-    record { base = 0x1000; d0 = 3; d1 = 2; total = 8; s0 = 4; s1 = 0x20; s2 = 0x100; mask = mask }
+    record { base = 0x1000; d0 = 3; d1 = 2; total = 8; s0 = 4; s1 = 0x20; s2 = 0x100; mask = mask; store = false }
 
 abbrev p12Settings : Settings
-p12Settings = record { base = 8; d0 = 0; d1 = 0; total = 4; s0 = 0xfffffffc; s1 = 0; s2 = 0; mask = 0 }
+p12Settings = record { base = 8; d0 = 0; d1 = 0; total = 4; s0 = 0xfffffffc; s1 = 0; s2 = 0; mask = 0; store = false }
+
+-- a store, or a load, from P9's base
+abbrev transfer : (store : Bool) (mask d0 d1 total s0 s1 s2 : ℕ) → Settings
+transfer store mask d0 d1 total s0 s1 s2 =
+    record { base = 0x1000; d0 = d0; d1 = d1; total = total; s0 = s0; s1 = s1; s2 = s2; mask = mask; store = store }
 
 -- Where the papers name no handshakes or no clears, they are those of the rules. Each generator is asked for 8 addresses.
 abbrev pub examples : List Example
@@ -129,6 +137,27 @@ examples =
     ∷ stream false ((0x0c, 0) ∷ []) gives isRefused 2
     -- C6 a clear before the breach counts, one after it does not: rule 4 at 2, clears 1
     ∷ stream false ((0x04, 0) ∷ (0xf1, 0x11) ∷ (0xf0, 0x11) ∷ (0x04, 0) ∷ []) gives isBroken (number 4) 2 0 1
+    -- Request T-07. S1 P9 as a store: as P9
+    ∷ generator (transfer true 3 3 2 8 4 0x20 0x100) 8 gives
+    yielded 8 (0x1000 ∷ 0x1004 ∷ 0x1008 ∷ 0x1020 ∷ 0x1024 ∷ 0x1028 ∷ 0x1100 ∷ 0x1104 ∷ [])
+    -- S2 P9 with s0 0, as a store: a line goes into one word, refused with 11; as a load it may repeat
+    ∷ generator (transfer true 3 3 2 8 0 0x20 0x100) 8 gives notRun 11
+    ∷ generator (transfer false 3 3 2 8 0 0x20 0x100) 8 gives
+    yielded 8 (0x1000 ∷ 0x1000 ∷ 0x1000 ∷ 0x1020 ∷ 0x1020 ∷ 0x1020 ∷ 0x1100 ∷ 0x1100 ∷ [])
+    -- S3 s1 0: one line of 3 is stored; total 4 is above d0, refused with 11
+    ∷ generator (transfer true 1 3 0 3 4 0 0) 8 gives yielded 3 (0x1000 ∷ 0x1004 ∷ 0x1008 ∷ [])
+    ∷ generator (transfer true 1 3 0 4 4 0 0) 8 gives notRun 11
+    -- S4 s1 0, both bits and d1 1: dimension 1 does not advance
+    ∷ generator (transfer true 3 2 1 4 4 0 0x100) 8 gives yielded 4 (0x1000 ∷ 0x1004 ∷ 0x1100 ∷ 0x1104 ∷ [])
+    -- S5 s2 0: one plane of 2 times 2 is stored; total 5 is above it, refused with 11
+    ∷ generator (transfer true 3 2 2 4 4 0x20 0) 8 gives yielded 4 (0x1000 ∷ 0x1004 ∷ 0x1020 ∷ 0x1024 ∷ [])
+    ∷ generator (transfer true 3 2 2 5 4 0x20 0) 8 gives notRun 11
+    -- S6 s2 0 and a plane of 2^32, which no total is above
+    ∷ generator (transfer true 3 0x10000 0x10000 2 4 0x20 0) 8 gives yielded 2 (0x1000 ∷ 0x1004 ∷ [])
+    -- S7 mask 2 is one-dimensional: only s0 is looked at
+    ∷ generator (transfer true 2 0 0 3 4 0 0) 8 gives yielded 3 (0x1000 ∷ 0x1004 ∷ 0x1008 ∷ [])
+    -- S8 no stride is 0, and a word is stored twice: not refused
+    ∷ generator (transfer true 1 2 0 3 4 4 0) 8 gives yielded 3 (0x1000 ∷ 0x1004 ∷ 0x1004 ∷ [])
     ∷ []
 
 -- The claim: to every question the definitions give the answer that the papers give.

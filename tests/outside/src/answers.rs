@@ -193,6 +193,7 @@ pub struct Settings {
     pub s1: u32,
     pub s2: u32,
     pub mask: u8,
+    pub store: bool,
 }
 
 /// The address generator's state.

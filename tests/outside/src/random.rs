@@ -70,7 +70,7 @@ pub fn same<T: PartialEq + std::fmt::Debug>(what: &str, got: &T, want: &T) -> Re
 }
 
 /// Fails, with the seed, where a comparison differs, and where the kinds of answers are not those that the inputs should reach.
-pub fn agree(cases: u64, kinds: &[&str], compare: impl Fn(&Random) -> Compared) {
+pub fn agree(cases: u64, kinds: &[impl AsRef<str>], compare: impl Fn(&Random) -> Compared) {
     agree_in_all(cases, kinds, |random| {
         compare(random).map(|kind| BTreeSet::from([kind]))
     });

@@ -12,14 +12,39 @@ pub const START: State = State {
     ov: 0,
 };
 
-fn bad_mask(s: &Settings) -> bool {
+pub fn bad_mask(s: &Settings) -> bool {
     let bit0 = s.mask & 1 != 0;
     let bit1 = s.mask & 2 != 0;
     s.mask > 3 || (bit0 && s.d0 == 0) || (bit0 && bit1 && s.d1 == 0)
 }
 
+/// A store whose rule forbids it: a dimension that advances has stride 0.
+pub fn overwrites_itself(s: &Settings) -> bool {
+    let bit0 = s.mask & 1 != 0;
+    let bit1 = s.mask & 2 != 0;
+    let first = s.total > 1 && (!bit0 || s.d0 > 1);
+    let second = bit0 && s.total > s.d0 && !(bit1 && s.d1 == 1);
+    let third = bit0 && bit1 && u64::from(s.total) > u64::from(s.d0) * u64::from(s.d1);
+    s.store && (s.s0 == 0 && first || s.s1 == 0 && second || s.s2 == 0 && third)
+}
+
+/// The refusals whose ground applies, in the order in which they are tried.
+pub fn grounds(s: &Settings, t: &State, n: usize, room: usize) -> Vec<u8> {
+    let table = [
+        (10, bad_mask(s)),
+        (11, overwrites_itself(s)),
+        (6, t.ov > s.total),
+        (7, room < n),
+    ];
+    table
+        .into_iter()
+        .filter(|row| row.1)
+        .map(|row| row.0)
+        .collect()
+}
+
 /// One iteration: the address that it yields, and the state after it.
-fn iterate(s: &Settings, t: &mut State) -> u32 {
+pub fn iterate(s: &Settings, t: &mut State) -> u32 {
     let bit0 = s.mask & 1 != 0;
     let bit1 = s.mask & 2 != 0;
     let mut address = s.base.wrapping_add(t.a0);
@@ -49,19 +74,14 @@ fn iterate(s: &Settings, t: &mut State) -> u32 {
 }
 
 pub fn run(settings: &Settings, state: &State, n: usize, out: &mut [u32]) -> AddressRun {
+    let grounds = grounds(settings, state, n, out.len());
     let mut answer = AddressRun {
-        refusal: 0,
+        refusal: grounds.first().copied().unwrap_or(0),
         count: 0,
         state: *state,
         done: false,
     };
-    if bad_mask(settings) {
-        answer.refusal = 10;
-    } else if state.ov > settings.total {
-        answer.refusal = 6;
-    } else if out.len() < n {
-        answer.refusal = 7;
-    } else {
+    if answer.refusal == 0 {
         while answer.count < n && answer.state.ov < settings.total {
             out[answer.count] = iterate(settings, &mut answer.state);
             answer.count += 1;

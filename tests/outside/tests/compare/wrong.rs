@@ -5,9 +5,10 @@ use crate::{
     strobes,
 };
 use outside::answers::{
-    Chain, ChainRun, DeliveryTime, Fifo, Merged, Monitor, Offer, Payload, Place, Split,
-    StreamAnswer, Wide, BROKEN, CLEAN, MAX_DEPTH, MAX_FIFOS, MAX_LANES,
+    AddressRun, Chain, ChainRun, DeliveryTime, Fifo, Merged, Monitor, Offer, Payload, Place,
+    Settings, Split, State, StreamAnswer, Wide, BROKEN, CLEAN, MAX_DEPTH, MAX_FIFOS, MAX_LANES,
 };
+use outside::models::addressgen::{bad_mask, overwrites_itself};
 use outside::models::chain::{Line, Offered};
 use outside::models::fifo::{legal_place, Stage, NOTHING};
 use outside::models::stream::{check_stream_by, Reading, RULES};
@@ -885,6 +886,85 @@ fn a_counter_that_starts_one_off() {
             linked::addressgen_run(settings, &early, n, out)
         })
     });
+}
+
+/// A run that refuses another choice of settings with 11 differs.
+fn store_rule_differs(wrong: impl Fn(&Settings) -> bool) {
+    differs(|random| {
+        addressgen::compare_edge(random, |settings, state, n, out| {
+            if bad_mask(settings) || !wrong(settings) {
+                let load = Settings {
+                    store: false,
+                    ..*settings
+                };
+                return linked::addressgen_run(&load, state, n, out);
+            }
+            AddressRun {
+                refusal: 11,
+                count: 0,
+                state: *state,
+                done: false,
+            }
+        })
+    });
+}
+
+#[test]
+fn other_settings_refused_with_11() {
+    let wrong: [fn(&Settings) -> bool; 9] = [
+        |_| false,
+        |s| overwrites_itself(&Settings { store: true, ..*s }),
+        |s| s.s0 == 0 && s.store || overwrites_itself(s),
+        |s| {
+            s.mask == 3 && s.d1 == 1 && s.s1 == 0 && s.total > s.d0 && s.store
+                || overwrites_itself(s)
+        },
+        |s| s.mask == 2 && s.s1 == 0 && s.total > s.d0 && s.store || overwrites_itself(s),
+        |s| s.mask == 1 && s.s1 == 0 && s.total == s.d0 && s.store || overwrites_itself(s),
+        |s| {
+            s.mask == 3 && s.s2 == 0 && s.total > s.d0.wrapping_mul(s.d1) && s.store
+                || overwrites_itself(s)
+        },
+        |s| {
+            !(s.mask == 3 && u64::from(s.total) == u64::from(s.d0) * u64::from(s.d1) + 1)
+                && overwrites_itself(s)
+        },
+        |s| s.mask != 2 && overwrites_itself(s),
+    ];
+    for rule in wrong {
+        store_rule_differs(rule);
+    }
+}
+
+#[test]
+fn a_store_with_nothing_to_do_accepted() {
+    let wrong: [fn(&Settings, &State, usize) -> bool; 2] =
+        [|_, _, n| n == 0, |s, t, _| t.ov == s.total];
+    for idle in wrong {
+        differs(|random| {
+            addressgen::compare(random, |settings, state, n, out| {
+                let mut given = *settings;
+                given.store &= !idle(settings, state, n);
+                linked::addressgen_run(&given, state, n, out)
+            })
+        });
+    }
+}
+
+#[test]
+fn refusal_11_in_another_place() {
+    for (refusal, first) in [(10, 11), (11, 6), (11, 7)] {
+        differs(|random| {
+            addressgen::compare(random, |settings, state, n, out| {
+                let mut answer = linked::addressgen_run(settings, state, n, out);
+                let grounds = models::addressgen::grounds(settings, state, n, out.len());
+                if answer.refusal == refusal && grounds.contains(&first) {
+                    answer.refusal = first;
+                }
+                answer
+            })
+        });
+    }
 }
 
 #[test]

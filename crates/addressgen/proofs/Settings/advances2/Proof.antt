@@ -1,5 +1,10 @@
 -- `addressgen::Settings::advances2` meets its contract: its tests are the definition's. Assumes nothing.
+use Prim.Native.Nat.{ℕ}
+use mathlib.Core.Bool.{Bool, _&&_}
+use mathlib.Core.Path.{_∙_, ap, ap₂}
+use lib.Dec.{ltb}
 use borrow.Author.Needs.{needs}
+use Rattle.addressgen.specs.Stepping.{bit0, bit1}
 use Rattle.addressgen.proofs.Settings.advances2.Statement.{statement}
 use Rattle.addressgen.proofs.Settings.advances2.Tie as tie
 
@@ -17,7 +22,10 @@ cast-result c = search needs
 
 returns : tie.Need-returns
 returns c =
-    simp (c .before .before .before .bit0 .ensures, c .before .before .bit1 .ensures, c .before .product .ensures)
+    let s = c .before .before .before .before .args .self in
+    ap₂ (λ (b0 b1 : Bool). b0 && b1 && ltb (c .before .product .result) (s .total))
+    (c .before .before .before .bit0 .ensures) (c .before .before .bit1 .ensures)
+    ∙ ap (λ (plane : ℕ). bit0 s && bit1 s && ltb plane (s .total)) (c .before .product .ensures)
 
 pub advances2-spec : {M : Type 1} → statement M
 advances2-spec =

@@ -1,5 +1,10 @@
 -- `addressgen::Settings::overwrites_itself` meets its contract: its tests are the definition's. Assumes nothing.
+use mathlib.Core.Bool.{Bool, _&&_, _||_}
+use mathlib.Core.Path.{_∙_, ap, ap₂}
+use lib.Dec.{eqb}
 use borrow.Author.Needs.{needs}
+use Rattle.addressgen.specs.Stepping.{dimension0, dimension1}
+use Rattle.addressgen.specs.Overwriting.{advancesInPlace}
 use Rattle.addressgen.proofs.Settings.overwrites_itself.Statement.{statement}
 use Rattle.addressgen.proofs.Settings.overwrites_itself.Tie as tie
 
@@ -14,9 +19,14 @@ advances2-requires c κs = search needs
 
 returns : tie.Need-returns
 returns c =
+    let s = c .before .before .before .before .before .before .before .args .self in
     let first = c .before .before .before .before .before .before .advances0 in
     let second = c .before .before .before .before .advances1 in
-    simp (first .ensures, second .ensures, c .before .before .advances2 .ensures)
+    let third = c .before .before .advances2 in
+    ap₂ (λ (a0 a1 : Bool). s .store && (a0 && eqb (s .s0) 0 || a1 && eqb (s .s1) 0 || third .result && eqb (s .s2) 0))
+    (first .ensures) (second .ensures)
+    ∙ ap (λ (a2 : Bool). s .store && (advancesInPlace s dimension0 || advancesInPlace s dimension1 || a2 && eqb (s .s2) 0))
+    (third .ensures)
 
 pub overwrites-itself-spec : {M : Type 1} → statement M
 overwrites-itself-spec =

@@ -390,6 +390,7 @@ fn addresses() {
         s1: 0x200,
         s2: 0x10_000,
         mask: 3,
+        store: true,
     };
     let mut out = vec![0; CYCLES];
     let mut plain_out = out.clone();
