@@ -20,22 +20,26 @@ Chosen first second dimension0 = first ≡ true
 Chosen first second dimension1 = (first ≡ false) × (second ≡ true)
 Chosen first second dimension2 = (first ≡ false) × (second ≡ false)
 
-chosen : (first second : Bool) → Chosen first second (cond first dimension0 (cond second dimension1 dimension2))
-chosen true second = refl
-chosen false true = (refl, refl)
-chosen false false = (refl, refl)
+chosen : (first second : Bool) (d : Dimension) → (cond first dimension0 (cond second dimension1 dimension2) ≡ d) ↔ Chosen first second d
+chosen first second d = (λ e. rw e at (passed first second), takes d)
+  where
+    passed : (first second : Bool) → Chosen first second (cond first dimension0 (cond second dimension1 dimension2))
+    passed true second = refl
+    passed false true = (refl, refl)
+    passed false false = (refl, refl)
 
-takes : (first second : Bool) (d : Dimension) → Chosen first second d → cond first dimension0 (cond second dimension1 dimension2) ≡ d
-takes first second dimension0 e = rw e
-takes first second dimension1 e = rw (e .0, e .1)
-takes first second dimension2 e = rw (e .0, e .1)
+    takes : (d : Dimension) → Chosen first second d → cond first dimension0 (cond second dimension1 dimension2) ≡ d
+    takes dimension0 e = rw e
+    takes dimension1 e = rw (e .0, e .1)
+    takes dimension2 e = rw (e .0, e .1)
 
--- a dimension goes on exactly when its counter does, if its mask bit is set; and one that does not go on has its bit set
+-- a dimension whose mask bit is set goes on exactly when its counter does, one whose bit is clear always
 goes-on : (counting bit : Bool) → ((counting || not bit) ≡ true) ↔ (bit ≡ true → counting ≡ true)
 goes-on true bit = (λ e f. refl, λ h. refl)
 goes-on false true = (λ e f. e, λ h. h refl)
 goes-on false false = (λ e f. absurd (false≢true f), λ h. refl)
 
+-- so one that does not go on has its bit set
 ended : (counting bit : Bool) → (counting || not bit) ≡ false → (counting ≡ false) × (bit ≡ true)
 ended counting bit e = let n = neither counting (not bit) e in (n .0, not-false bit (n .1))
 
@@ -75,18 +79,18 @@ module _ (s : Settings) (legal : Legal s) where
     abbrev inPlane : Bool
     inPlane = ltb (after s start i .c1) (s .d1)
 
-    tests : (d : Dimension) → alongAt s i ≡ d → Chosen (inLine || not (bit0 s)) (inPlane || not (bit1 s)) d
-    tests d e = rw e at (chosen (inLine || not (bit0 s)) (inPlane || not (bit1 s)))
+    tests : (d : Dimension) → (alongAt s i ≡ d) ↔ Chosen (inLine || not (bit0 s)) (inPlane || not (bit1 s)) d
+    tests = chosen (inLine || not (bit0 s)) (inPlane || not (bit1 s))
 
     -- what an iteration that advances along a dimension has come to: a line of more than one, the end of a line, the end of a plane
     pub reaches0 : alongAt s i ≡ dimension0 → bit0 s ≡ true → 1 < s .d0
     reaches0 e more =
-        let within = goes-on inLine (bit0 s) .0 (tests dimension0 e) more in
+        let within = goes-on inLine (bit0 s) .0 (tests dimension0 .0 e) more in
         omega (arith, ltb-true, counter0 more i)
 
     pub reaches1 : alongAt s i ≡ dimension1 → (bit0 s ≡ true) × (s .d0 ≤ suc i) × (bit1 s ≡ true → 1 < s .d1)
     reaches1 e =
-        let t = tests dimension1 e in
+        let t = tests dimension1 .0 e in
         let line = ended inLine (bit0 s) (t .0) in (
           line .1,
           omega (arith, ltb-false, counter0 (line .1) i, mod-le i (s .d0)),
@@ -96,7 +100,7 @@ module _ (s : Settings) (legal : Legal s) where
 
     pub reaches2 : alongAt s i ≡ dimension2 → (bit0 s ≡ true) × (bit1 s ≡ true) × (s .d0 * s .d1 ≤ suc i)
     reaches2 e =
-        let t = tests dimension2 e in
+        let t = tests dimension2 .0 e in
         let line = ended inLine (bit0 s) (t .0) in
         let plane = ended inPlane (bit1 s) (t .1) in
         let lines : s .d1 ≤ i / s .d0 + 1 =
@@ -106,12 +110,9 @@ module _ (s : Settings) (legal : Legal s) where
           omega (arith, ltb-false, counter0 (line .1) i, mod-add-div i (s .d0), mul-le-mul-left (s .d0) lines),
         )
 
-    chosen-at : (d : Dimension) → Chosen (inLine || not (bit0 s)) (inPlane || not (bit1 s)) d → alongAt s i ≡ d
-    chosen-at d c = takes (inLine || not (bit0 s)) (inPlane || not (bit1 s)) d c
-
   -- the first iteration of all
   pub along0-at : (bit0 s ≡ true → 1 < s .d0) → alongAt s 0 ≡ dimension0
-  along0-at long = chosen-at 0 dimension0 (goes-on (inLine 0) (bit0 s) .1 (λ more. lt-ltb 1 (s .d0) (long more)))
+  along0-at long = tests 0 dimension0 .1 (goes-on (inLine 0) (bit0 s) .1 (λ more. lt-ltb 1 (s .d0) (long more)))
 
   module _ (more : bit0 s ≡ true) where
     line-ends : (r : ℕ) → (inLine (lineEnd s r) || not (bit0 s)) ≡ false
@@ -138,7 +139,7 @@ module _ (s : Settings) (legal : Legal s) where
 
     pub along1-at : (bit1 s ≡ true → 1 < s .d1) → alongAt s (lineEnd s 0) ≡ dimension1
     along1-at several =
-        chosen-at (lineEnd s 0) dimension1 (line-ends 0, goes-on (inPlane (lineEnd s 0)) (bit1 s) .1 first)
+        tests (lineEnd s 0) dimension1 .1 (line-ends 0, goes-on (inPlane (lineEnd s 0)) (bit1 s) .1 first)
       where
         first : bit1 s ≡ true → inPlane (lineEnd s 0) ≡ true
         first all =
@@ -146,7 +147,7 @@ module _ (s : Settings) (legal : Legal s) where
             lt-ltb (after s start (lineEnd s 0) .c1) (s .d1) (omega (arith, line-number all 0, zero-mod (s .d1)))
 
     pub along2-at : bit1 s ≡ true → alongAt s (planeEnd s) ≡ dimension2
-    along2-at all = chosen-at (planeEnd s) dimension2 (line-ends (s .d1 - 1), plane-ends)
+    along2-at all = tests (planeEnd s) dimension2 .1 (line-ends (s .d1 - 1), plane-ends)
       where
         plane-ends : (inPlane (planeEnd s) || not (bit1 s)) ≡ false
         plane-ends =

@@ -5,7 +5,7 @@ use native.Mathlib.Nat.{mul-le-mul-left}
 use native.Mathlib.Omega.{arith}
 use mathlib.Core.Bool.{Bool, true, false}
 use mathlib.Core.List.{[], _∷_}
-use mathlib.Core.Option.{Option, none, some}
+use mathlib.Core.Option.{some}
 use mathlib.Core.Path.{_≡_, refl, sym, _∙_}
 use lib.Dec.{ltb}
 use Rattle.signals.specs.Tables.{_⇐_, firstOf}
@@ -14,8 +14,9 @@ use Rattle.addressgen.specs.declared.Settings.{Settings}
 use Rattle.addressgen.specs.declared.State.{State}
 use Rattle.addressgen.specs.Stepping.{_⊕_, bit0, bit1, start, Dimension, dimension0, dimension1, dimension2, advanced, after}
 use Rattle.addressgen.specs.Overwriting.{stride, advances, overwritesItself}
-use Rattle.addressgen.specs.Run.{badMask, grounds, answerTo}
+use Rattle.addressgen.specs.Run.{badMask, grounds}
 use Rattle.addressgen.specs.Meaning.{Legal, alongAt, YieldsTwice, RefusedYieldsTwice}
+use Rattle.addressgen.proofs.Running.{given-refusal}
 use Rattle.addressgen.proofs.Dimensions.{lineEnd, planeEnd, line-made, plane-made, reaches2, along0-at, along1-at, along2-at}
 use Rattle.addressgen.proofs.Advancing.{asked0, asked1, asked2}
 use Rattle.addressgen.proofs.Overwriting.{in-place}
@@ -101,11 +102,6 @@ module _ (s : Settings) where
     repeats dimension1 e z = let a = asked1 s legal e in repeats1 z (a .0) (a .1) (a .2) (along1-at s legal (a .0) (a .2))
     repeats dimension2 e z = let a = asked2 s legal e in repeats2 z (a .0) (a .1) (a .2) (along2-at s legal (a .0) (a .1))
 
--- the refusal that is given is the first ground's
-given : (s : Settings) (t : State) (n : ℕ) (refusal : Option ℕ) → answerTo s t n refusal .refusal ≡ refusal
-given s t n none = refl
-given s t n (some number) = refl
-
 -- 11 is given where its own ground applies and that of 10 does not
 eleven-first : (mask overwriting state room : Bool) →
     firstOf {N = ℕ} (10 ⇐ mask ∷ 11 ⇐ overwriting ∷ 6 ⇐ state ∷ 7 ⇐ room ∷ []) ≡ some 11 → (mask ≡ false) × (overwriting ≡ true)
@@ -117,7 +113,7 @@ eleven-first false false false false e = absurd (clash cc)
 
 pub refused-yields-twice : RefusedYieldsTwice
 refused-yields-twice s t n room fits0 fits1 e =
-    let first = sym (given s t n (firstOf (grounds s t n room))) ∙ e in
+    let first = sym (given-refusal s t n (firstOf (grounds s t n room))) ∙ e in
     let settings = eleven-first (badMask s) (overwritesItself s) (ltb (s .total) (t .ov)) (ltb room n) first in
     let still = in-place s (settings .1) in
     repeats s (record { d0-fits = fits0; d1-fits = fits1; mask = settings .0 }) (still .0) (still .1) (still .2)

@@ -4,7 +4,7 @@ use Prim.Native.Nat.{ℕ, _+_, _-_, _≤_, min}
 use native.Mathlib.Omega.{arith}
 use mathlib.Core.Bool.{false}
 use mathlib.Core.Logic.{⊎-elim}
-use mathlib.Core.Option.{Option, none, some}
+use mathlib.Core.Option.{none}
 use mathlib.Core.Path.{_≡_, refl, sym, _∙_, ap}
 use lib.Dec.{eqb, leb}
 use borrow.Author.Tests.{le-ltb, ltb-false, leb-true, leb-false, eq-eqb, ne-eqb}
@@ -15,18 +15,15 @@ use Rattle.addressgen.specs.declared.Settings.{Settings}
 use Rattle.addressgen.specs.declared.State.{State}
 use Rattle.addressgen.specs.Stepping.{start, after}
 use Rattle.addressgen.specs.Overwriting.{overwritesItself}
-use Rattle.addressgen.specs.Run.{badMask, grounds, iterations, ranFor, answerTo, ranOf}
+use Rattle.addressgen.specs.Run.{badMask, grounds, iterations, ranFor, ranOf}
 use Rattle.addressgen.specs.Resuming.{AreOne, RunsResume, RunsFinish}
+use Rattle.addressgen.proofs.Running.{given-refusal}
 use Rattle.addressgen.proofs.Stepping.{after-rises, after-adds, addresses-add}
 
 module _ (s : Settings) (t : State) (n room : ℕ) where
   -- an answer without a refusal: no ground applied
   no-ground : ranOf s t n room .refusal ≡ none → NoneIn (grounds s t n room)
-  no-ground e = none-keeps (grounds s t n room) (tells (firstOf (grounds s t n room)) e)
-    where
-      tells : (refusal : Option ℕ) → answerTo s t n refusal .refusal ≡ none → refusal ≡ none
-      tells none f = refl
-      tells (some number) f = f
+  no-ground e = none-keeps (grounds s t n room) (sym (given-refusal s t n (firstOf (grounds s t n room))) ∙ e)
 
   -- with legal settings, ov at most total and room the answer is that of the iterations
   ran-accepted :

@@ -3,8 +3,8 @@
 use Prim.Native.Nat.{ℕ, _+_}
 use native.Mathlib.Omega.{arith}
 use mathlib.Core.List.{List, _++_}
-use mathlib.Core.Option.{none, some}
-use mathlib.Core.Path.{_≡_, _∙_, ap}
+use mathlib.Core.Option.{Option, none, some}
+use mathlib.Core.Path.{_≡_, refl, _∙_, ap}
 use lib.Dec.{eqb}
 use lib.ListN.{length, drop}
 use Rattle.signals.specs.Tables.{firstOf}
@@ -13,8 +13,13 @@ use Rattle.addressgen.specs.declared.Settings.{Settings}
 use Rattle.addressgen.specs.declared.State.{State}
 use Rattle.addressgen.specs.declared.Ran.{Ran}
 use Rattle.addressgen.specs.Stepping.{after, addresses}
-use Rattle.addressgen.specs.Run.{grounds, Answer, answerOf, iterations, refusedRun, Generated}
+use Rattle.addressgen.specs.Run.{grounds, Answer, answerOf, iterations, refusedRun, answerTo, Generated}
 use Rattle.addressgen.proofs.Stepping.{after-rises}
+
+-- the refusal that is answered is the one that is given
+pub given-refusal : (s : Settings) (t : State) (n : ℕ) (refusal : Option ℕ) → answerTo s t n refusal .refusal ≡ refusal
+given-refusal s t n none = refl
+given-refusal s t n (some number) = refl
 
 module _ (s : Settings) (t : State) (n : ℕ) (before : List ℕ) where
   pub refused-run :

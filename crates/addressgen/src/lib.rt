@@ -1,6 +1,6 @@
 // The three-dimensional address generator: its settings, its state, and a run of it into a lent buffer of words.
 //
-// Writes out "Address generator" of document 01.
+// Writes out "Address generator" of document 01, with the mark for load or store and refusal 11 of request T-07.
 ghost use mathlib.Core.Path.{_≡_};
 ghost use mathlib.Core.List.{_++_};
 ghost use Prim.Native.Nat.{_-_, _*_, _≤_, _<_};

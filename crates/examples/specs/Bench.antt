@@ -156,8 +156,9 @@ examples =
     ∷ generator (transfer true 3 0x10000 0x10000 2 4 0x20 0) 8 gives yielded 2 (0x1000 ∷ 0x1004 ∷ [])
     -- S7 mask 2 is one-dimensional: only s0 is looked at
     ∷ generator (transfer true 2 0 0 3 4 0 0) 8 gives yielded 3 (0x1000 ∷ 0x1004 ∷ 0x1008 ∷ [])
-    -- S8 no stride is 0, and a word is stored twice: not refused
+    -- S8 no stride is 0, and a word is stored twice, since s0 = s1 or by wrapping: not refused
     ∷ generator (transfer true 1 2 0 3 4 4 0) 8 gives yielded 3 (0x1000 ∷ 0x1004 ∷ 0x1004 ∷ [])
+    ∷ generator (transfer true 0 0 0 3 0x80000000 0 0) 8 gives yielded 3 (0x1000 ∷ 0x80001000 ∷ 0x1000 ∷ [])
     ∷ []
 
 -- The claim: to every question the definitions give the answer that the papers give.
