@@ -1,6 +1,6 @@
 -- An iteration before the last one advances along a dimension exactly when the request's clause says so: the clause's tests are what
 -- such an iteration has come to, and the first that comes to it advances. Assumes nothing.
-use Prim.Native.Nat.{ℕ, _*_, _<_}
+use Prim.Native.Nat.{_*_, _<_}
 use native.Mathlib.Omega.{arith}
 use mathlib.Core.Bool.{Bool, true, false, not, _&&_, _||_, false≢true}
 use mathlib.Core.Logic.{_↔_}
