@@ -3,11 +3,11 @@
 // Writes out "Address generator" of document 01, with the mark for load or store and refusal 11 of request T-07.
 ghost use mathlib.Core.Path.{_≡_};
 ghost use mathlib.Core.List.{_++_};
-ghost use Prim.Native.Nat.{_-_, _*_, _≤_, _<_};
+ghost use Prim.Native.Nat.{_-_, _≤_, _<_};
 ghost use lib.ListN.{length, drop};
 ghost use Rattle.signals.specs.Refusals.{numberOf};
-ghost use Rattle.addressgen.specs.Stepping.{_⊕_, bit0, bit1, start, address, next, after, addresses, dimension0, dimension1, dimension2};
-ghost use Rattle.addressgen.specs.Overwriting.{advances, overwritesItself};
+ghost use Rattle.addressgen.specs.Stepping.{_⊕_, bit0, bit1, start, address, next, after, addresses};
+ghost use Rattle.addressgen.specs.Overwriting.{overwritesItself};
 ghost use Rattle.addressgen.specs.Run.{badMask, iterations, answerOf, refusedRun, Generated};
 
 // The largest legal mask: two bits.
@@ -57,13 +57,6 @@ fn plus(x: u32, y: u32) -> u32
     std::num::wrapping_add_u32(x, y)
 }
 
-// A product that does not wrap.
-fn product(x: u32, y: u32) -> u64
-    ensures { λ r. ⌜ r ≡ x * y ⌝ }
-{
-    x as u64 * y as u64
-}
-
 impl State {
     // The state before the first iteration.
     pub fn start() -> State
@@ -103,40 +96,20 @@ impl Settings {
         (MAX_MASK < self.mask) | (bit0 & (self.d0 == 0)) | (bit0 & bit1 & (self.d1 == 0))
     }
 
-    // Whether some iteration before the last one advances along dimension 0.
-    fn advances0(self) -> bool
-        ensures { λ r. ⌜ r ≡ advances self dimension0 ⌝ }
-    {
-        let bit0 = self.bit0();
-        (!bit0 & (1 < self.total)) | (bit0 & (1 < self.d0) & (1 < self.total))
-    }
-
-    // Along dimension 1.
-    fn advances1(self) -> bool
-        ensures { λ r. ⌜ r ≡ advances self dimension1 ⌝ }
-    {
-        let bit0 = self.bit0();
-        let bit1 = self.bit1();
-        bit0 & (self.d0 < self.total) & !(bit0 & bit1 & (self.d1 == 1))
-    }
-
-    // Along dimension 2.
-    fn advances2(self) -> bool
-        ensures { λ r. ⌜ r ≡ advances self dimension2 ⌝ }
-    {
-        let bit0 = self.bit0();
-        let bit1 = self.bit1();
-        bit0 & bit1 & (product(self.d0, self.d1) < self.total as u64)
-    }
-
-    // Whether this is a store and a dimension that advances has stride 0.
+    // Whether this is a store in which a dimension that advances has stride 0.
     fn overwrites_itself(self) -> bool
         ensures { λ r. ⌜ r ≡ overwritesItself self ⌝ }
     {
-        let in_place0 = self.advances0() & (self.s0 == 0);
-        let in_place1 = self.advances1() & (self.s1 == 0);
-        let in_place2 = self.advances2() & (self.s2 == 0);
-        self.store & (in_place0 | in_place1 | in_place2)
+        let bit0 = self.bit0();
+        let bit1 = self.bit1();
+        let plane = self.d0 as u64 * self.d1 as u64;
+        let advances0 = (!bit0 & (1 < self.total)) | (bit0 & (1 < self.d0) & (1 < self.total));
+        let advances1 = bit0 & (self.d0 < self.total) & !(bit0 & bit1 & (self.d1 == 1));
+        let advances2 = bit0 & bit1 & (plane < self.total as u64);
+        self.store
+            & ((advances0 & (self.s0 == 0))
+                | (advances1 & (self.s1 == 0))
+                | (advances2 & (self.s2 == 0)))
     }
 
     // The address that the next iteration yields.

@@ -137,9 +137,9 @@ examples =
     ∷ stream false ((0x0c, 0) ∷ []) gives isRefused 2
     -- C6 a clear before the breach counts, one after it does not: rule 4 at 2, clears 1
     ∷ stream false ((0x04, 0) ∷ (0xf1, 0x11) ∷ (0xf0, 0x11) ∷ (0x04, 0) ∷ []) gives isBroken (number 4) 2 0 1
-    -- Request T-07. S1 P9 as a store: as P9
-    ∷ generator (transfer true 3 3 2 8 4 0x20 0x100) 8 gives
-    yielded 8 (0x1000 ∷ 0x1004 ∷ 0x1008 ∷ 0x1020 ∷ 0x1024 ∷ 0x1028 ∷ 0x1100 ∷ 0x1104 ∷ [])
+    -- Request T-07. S1 P9 with total 7, as a store: its first seven
+    ∷ generator (transfer true 3 3 2 7 4 0x20 0x100) 8 gives
+    yielded 7 (0x1000 ∷ 0x1004 ∷ 0x1008 ∷ 0x1020 ∷ 0x1024 ∷ 0x1028 ∷ 0x1100 ∷ [])
     -- S2 P9 with s0 0, as a store: a line goes into one word, refused with 11; as a load it may repeat
     ∷ generator (transfer true 3 3 2 8 0 0x20 0x100) 8 gives notRun 11
     ∷ generator (transfer false 3 3 2 8 0 0x20 0x100) 8 gives

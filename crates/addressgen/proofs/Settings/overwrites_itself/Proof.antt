@@ -1,33 +1,51 @@
--- `addressgen::Settings::overwrites_itself` meets its contract: its tests are the definition's. Assumes nothing.
-use mathlib.Core.Bool.{Bool, _&&_, _||_}
-use mathlib.Core.Path.{_∙_, ap, ap₂}
-use lib.Dec.{eqb}
+-- `addressgen::Settings::overwrites_itself` meets its contract: its tests are the definition's, and the product of two numbers of 32 bits
+-- is one of 64. Assumes nothing.
+use Prim.Native.Nat.{_*_, _≤_}
+use native.Mathlib.Nat.{mul-le-mul}
+use native.Mathlib.Omega.{arith}
+use mathlib.Core.Bool.{Bool, not, _&&_, _||_}
+use mathlib.Core.Path.{ap₂}
+use lib.Dec.{eqb, ltb}
 use borrow.Author.Needs.{needs}
-use Rattle.addressgen.specs.Stepping.{dimension0, dimension1}
-use Rattle.addressgen.specs.Overwriting.{advancesInPlace}
 use Rattle.addressgen.proofs.Settings.overwrites_itself.Statement.{statement}
 use Rattle.addressgen.proofs.Settings.overwrites_itself.Tie as tie
 
-advances0-requires : tie.Need-advances0-requires
-advances0-requires c κs = search needs
+bit0-requires : tie.Need-bit0-requires
+bit0-requires c κs = search needs
 
-advances1-requires : tie.Need-advances1-requires
-advances1-requires c κs = search needs
+bit1-requires : tie.Need-bit1-requires
+bit1-requires c κs = search needs
 
-advances2-requires : tie.Need-advances2-requires
-advances2-requires c κs = search needs
+cast-plane : tie.Need-cast-plane
+cast-plane c = search needs
+
+cast-plane-2 : tie.Need-cast-plane-2
+cast-plane-2 c = search needs
+
+mul-plane : tie.Need-mul-plane
+mul-plane c =
+    let s = c .before .before .before .before .args .self in
+    let d0 : s .d0 ≤ 4294967295 = omega arith in
+    let d1 : s .d1 ≤ 4294967295 = omega arith in
+    omega (arith, mul-le-mul d0 d1)
+
+cast-advances2 : tie.Need-cast-advances2
+cast-advances2 c = search needs
 
 returns : tie.Need-returns
 returns c =
-    let s = c .before .before .before .before .before .before .before .args .self in
-    let first = c .before .before .before .before .before .before .advances0 in
-    let second = c .before .before .before .before .advances1 in
-    let third = c .before .before .advances2 in
-    ap₂ (λ (a0 a1 : Bool). s .store && (a0 && eqb (s .s0) 0 || a1 && eqb (s .s1) 0 || third .result && eqb (s .s2) 0))
-    (first .ensures) (second .ensures)
-    ∙ ap (λ (a2 : Bool). s .store && (advancesInPlace s dimension0 || advancesInPlace s dimension1 || a2 && eqb (s .s2) 0))
-    (third .ensures)
+    let bits = c .before .before .before .before .before .before .before .before .before .before .before .before in
+    let s = bits .before .before .args .self in
+    ap₂
+    (λ (b0 b1 : Bool).
+    s .store
+    && ((not b0 && ltb 1 (s .total) || b0 && ltb 1 (s .d0) && ltb 1 (s .total)) && eqb (s .s0) 0
+    || b0 && ltb (s .d0) (s .total) && not (b0 && b1 && eqb (s .d1) 1) && eqb (s .s1) 0
+    || b0 && b1 && ltb (s .d0 * s .d1) (s .total) && eqb (s .s2) 0))
+    (bits .before .bit0 .ensures)
+    (bits .bit1 .ensures)
 
 pub overwrites-itself-spec : {M : Type 1} → statement M
 overwrites-itself-spec =
-    tie.close (tie.spec advances0-requires advances1-requires advances2-requires returns)
+    tie.close
+    (tie.spec bit0-requires bit1-requires cast-plane cast-plane-2 mul-plane cast-advances2 returns)
