@@ -96,7 +96,7 @@ impl Settings {
         (MAX_MASK < self.mask) | (bit0 & (self.d0 == 0)) | (bit0 & bit1 & (self.d1 == 0))
     }
 
-    // Whether this is a store in which a dimension that advances has stride 0.
+    // Whether this is a store in which a dimension that advances has stride 0. The plane is counted in 64 bits, so that it does not wrap.
     fn overwrites_itself(self) -> bool
         ensures { λ r. ⌜ r ≡ overwritesItself self ⌝ }
     {
