@@ -16,8 +16,8 @@ pub const MAX_MASK: u8 = 3;
 // The counters of dimensions 0 and 1 count from 1.
 const COUNT_FROM: u32 = 1;
 
-// Base address, lengths of dimensions 0 and 1, how many iterations there are, strides, the dimension mask, and the mark: a store, or a
-// load.
+// Base address, lengths of dimensions 0 and 1, how many iterations there are, strides, the dimension mask, and whether this is a store
+// or a load.
 #[repr(C)]
 pub struct Settings {
     pub base: u32,
@@ -96,7 +96,7 @@ impl Settings {
         (MAX_MASK < self.mask) | (bit0 & (self.d0 == 0)) | (bit0 & bit1 & (self.d1 == 0))
     }
 
-    // Whether this is a store in which a dimension that advances has stride 0. The plane is counted in 64 bits, so that it does not wrap.
+    // Whether this is a store in which a dimension that advances has stride 0. The product is exact: it has 64 bits.
     fn overwrites_itself(self) -> bool
         ensures { λ r. ⌜ r ≡ overwritesItself self ⌝ }
     {

@@ -18,7 +18,7 @@ pub fn bad_mask(s: &Settings) -> bool {
     s.mask > 3 || (bit0 && s.d0 == 0) || (bit0 && bit1 && s.d1 == 0)
 }
 
-/// A store whose rule forbids it: a dimension that advances has stride 0.
+/// A store in which a dimension that advances has stride 0.
 pub fn overwrites_itself(s: &Settings) -> bool {
     let bit0 = s.mask & 1 != 0;
     let bit1 = s.mask & 2 != 0;
