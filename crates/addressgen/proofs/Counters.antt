@@ -22,13 +22,13 @@ quotient-in d q r h = add-mul-div-left q r (omega arith) ∙ ap (λ (k : ℕ). k
 
 module _ (d i : ℕ) where
   -- within a line one on is one on in it
-  same-line : suc (i % d) < d → (suc i % d ≡ suc (i % d)) × (suc i / d ≡ i / d)
+  pub same-line : suc (i % d) < d → (suc i % d ≡ suc (i % d)) × (suc i / d ≡ i / d)
   same-line h =
       let e : suc i ≡ suc (i % d) + d * (i / d) = omega (arith, mod-add-div i d) in
       (ap (λ (k : ℕ). k % d) e ∙ remainder-in d (suc (i % d)) (i / d) h, ap (λ (k : ℕ). k / d) e ∙ quotient-in d (suc (i % d)) (i / d) h)
 
   -- at the end of a line the next one begins
-  next-line : 0 < d → d ≤ suc (i % d) → (suc i % d ≡ 0) × (suc i / d ≡ suc (i / d))
+  pub next-line : 0 < d → d ≤ suc (i % d) → (suc i % d ≡ 0) × (suc i / d ≡ suc (i / d))
   next-line p h =
       let last : suc (i % d) ≡ d = omega (arith, mod-lt i p) in
       let e : suc i ≡ 0 + d * suc (i / d) = omega (arith, mod-add-div i d, last) in

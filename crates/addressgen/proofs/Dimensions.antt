@@ -82,33 +82,51 @@ module _ (s : Settings) (legal : Legal s) where
     tests : (d : Dimension) → (alongAt s i ≡ d) ↔ Chosen (inLine || not (bit0 s)) (inPlane || not (bit1 s)) d
     tests = chosen (inLine || not (bit0 s)) (inPlane || not (bit1 s))
 
-    -- what an iteration that advances along a dimension has come to: a line of more than one, the end of a line, the end of a plane
-    pub reaches0 : alongAt s i ≡ dimension0 → bit0 s ≡ true → 1 < s .d0
-    reaches0 e more =
+    -- where an iteration that advances along a dimension stands: within its line, at the end of it, and there within or at the end of its
+    -- plane
+    pub within-line : alongAt s i ≡ dimension0 → bit0 s ≡ true → suc (i % s .d0) < s .d0
+    within-line e more =
         let within = goes-on inLine (bit0 s) .0 (tests dimension0 .0 e) more in
         omega (arith, ltb-true, counter0 more i)
 
-    pub reaches1 : alongAt s i ≡ dimension1 → (bit0 s ≡ true) × (s .d0 ≤ suc i) × (bit1 s ≡ true → 1 < s .d1)
-    reaches1 e =
+    pub at-line-end :
+        alongAt s i ≡ dimension1 →
+        (bit0 s ≡ true) × (s .d0 ≤ suc (i % s .d0)) × (bit1 s ≡ true → suc (i / s .d0 % s .d1) < s .d1)
+    at-line-end e =
         let t = tests dimension1 .0 e in
         let line = ended inLine (bit0 s) (t .0) in (
           line .1,
-          omega (arith, ltb-false, counter0 (line .1) i, mod-le i (s .d0)),
+          omega (arith, ltb-false, counter0 (line .1) i),
           λ all.
               let within = goes-on inPlane (bit1 s) .0 (t .1) all in omega (arith, ltb-true, counter1 (line .1) all i),
         )
 
-    pub reaches2 : alongAt s i ≡ dimension2 → (bit0 s ≡ true) × (bit1 s ≡ true) × (s .d0 * s .d1 ≤ suc i)
-    reaches2 e =
+    pub at-plane-end :
+        alongAt s i ≡ dimension2 →
+        (bit0 s ≡ true) × (bit1 s ≡ true) × (s .d0 ≤ suc (i % s .d0)) × (s .d1 ≤ suc (i / s .d0 % s .d1))
+    at-plane-end e =
         let t = tests dimension2 .0 e in
         let line = ended inLine (bit0 s) (t .0) in
-        let plane = ended inPlane (bit1 s) (t .1) in
-        let lines : s .d1 ≤ i / s .d0 + 1 =
-        omega (arith, ltb-false, counter1 (line .1) (plane .1) i, mod-le (i / s .d0) (s .d1)) in (
+        let plane = ended inPlane (bit1 s) (t .1) in (
           line .1,
           plane .1,
-          omega (arith, ltb-false, counter0 (line .1) i, mod-add-div i (s .d0), mul-le-mul-left (s .d0) lines),
+          omega (arith, ltb-false, counter0 (line .1) i),
+          omega (arith, ltb-false, counter1 (line .1) (plane .1) i),
         )
+
+    -- so what it has come to: a line of more than one, the end of a line, the end of a plane
+    pub reaches0 : alongAt s i ≡ dimension0 → bit0 s ≡ true → 1 < s .d0
+    reaches0 e more = omega (arith, within-line e more)
+
+    pub reaches1 : alongAt s i ≡ dimension1 → (bit0 s ≡ true) × (s .d0 ≤ suc i) × (bit1 s ≡ true → 1 < s .d1)
+    reaches1 e =
+        let at = at-line-end e in (at .0, omega (arith, at .1, mod-le i (s .d0)), λ all. omega (arith, at .2 all))
+
+    pub reaches2 : alongAt s i ≡ dimension2 → (bit0 s ≡ true) × (bit1 s ≡ true) × (s .d0 * s .d1 ≤ suc i)
+    reaches2 e =
+        let at = at-plane-end e in
+        let lines : s .d1 ≤ i / s .d0 + 1 = omega (arith, at .3, mod-le (i / s .d0) (s .d1)) in
+        (at .0, at .1, omega (arith, at .2, mod-add-div i (s .d0), mul-le-mul-left (s .d0) lines))
 
   -- the first iteration of all
   pub along0-at : (bit0 s ≡ true → 1 < s .d0) → alongAt s 0 ≡ dimension0

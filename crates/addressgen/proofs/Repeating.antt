@@ -22,7 +22,7 @@ use Rattle.addressgen.proofs.Advancing.{asked0, asked1, asked2}
 use Rattle.addressgen.proofs.Overwriting.{in-place}
 
 -- how far a dimension has come
-abbrev come : State → Dimension → ℕ
+abbrev pub come : State → Dimension → ℕ
 come t dimension0 = t .a0
 come t dimension1 = t .a1
 come t dimension2 = t .a2

@@ -75,20 +75,20 @@ impl State {
 
 impl Settings {
     // Mask bit 0: whether addresses run in more than one dimension.
-    fn bit0(self) -> bool
+    pub fn bit0(self) -> bool
         ensures { λ r. ⌜ r ≡ bit0 self ⌝ }
     {
         self.mask % 2 == 1
     }
 
     // Mask bit 1: whether they then run in all three.
-    fn bit1(self) -> bool
+    pub fn bit1(self) -> bool
         ensures { λ r. ⌜ r ≡ bit1 self ⌝ }
     {
         self.mask / 2 % 2 == 1
     }
 
-    fn bad_mask(self) -> bool
+    pub fn bad_mask(self) -> bool
         ensures { λ r. ⌜ r ≡ badMask self ⌝ }
     {
         let bit0 = self.bit0();
@@ -97,7 +97,7 @@ impl Settings {
     }
 
     // Whether this is a store in which a dimension that advances has stride 0. The product is exact: it has 64 bits.
-    fn overwrites_itself(self) -> bool
+    pub fn overwrites_itself(self) -> bool
         ensures { λ r. ⌜ r ≡ overwritesItself self ⌝ }
     {
         let bit0 = self.bit0();

@@ -6,4 +6,5 @@ pub mod Fifos
 pub mod Chains
 pub mod Lanes
 pub mod Buffers
+pub mod Addresses
 pub mod Fields

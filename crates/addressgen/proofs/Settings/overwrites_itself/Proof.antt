@@ -1,12 +1,12 @@
 -- `addressgen::Settings::overwrites_itself` meets its contract: its tests are the definition's, and the product of two numbers of 32 bits
 -- is one of 64. Assumes nothing.
-use Prim.Native.Nat.{_*_, _≤_}
-use native.Mathlib.Nat.{mul-le-mul}
+use Prim.Native.Nat.{_*_}
 use native.Mathlib.Omega.{arith}
 use mathlib.Core.Bool.{Bool, not, _&&_, _||_}
 use mathlib.Core.Path.{ap₂}
 use lib.Dec.{eqb, ltb}
 use borrow.Author.Needs.{needs}
+use Rattle.addressgen.proofs.Products.{product-fits}
 use Rattle.addressgen.proofs.Settings.overwrites_itself.Statement.{statement}
 use Rattle.addressgen.proofs.Settings.overwrites_itself.Tie as tie
 
@@ -25,9 +25,7 @@ cast-plane-2 c = search needs
 mul-plane : tie.Need-mul-plane
 mul-plane c =
     let s = c .before .before .before .before .args .self in
-    let d0 : s .d0 ≤ 4294967295 = omega arith in
-    let d1 : s .d1 ≤ 4294967295 = omega arith in
-    omega (arith, mul-le-mul d0 d1)
+    omega (arith, product-fits (s .d0) (s .d1) (omega arith) (omega arith))
 
 cast-advances2 : tie.Need-cast-advances2
 cast-advances2 c = search needs

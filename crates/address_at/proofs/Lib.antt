@@ -1,0 +1,4 @@
+pub mod NumbersBelow
+pub mod Answers
+pub mod Stepped
+pub mod AsStepped

@@ -1,0 +1,64 @@
+// The iterations of a generator whose address is among others.
+ghost use mathlib.Core.Path.{_≡_};
+ghost use mathlib.Core.Bool.{false, cond};
+ghost use mathlib.Core.List.{_++_};
+ghost use Prim.Native.Nat.{_+_, _≤_, _<_};
+ghost use lib.ListN.{length, drop, set};
+ghost use Rattle.signals.specs.Sequences.{entriesBelow};
+ghost use Rattle.addressgen.specs.Run.{badMask};
+ghost use Rattle.address_at.specs.ByNumber.{addressOf};
+ghost use Rattle.address_at.specs.Overlap.{numbersBelow, isAmong};
+use crate::number::by_number;
+use addressgen::Settings;
+
+// Writes the addresses of all iterations from the buffer's start.
+pub(crate) fn write_all(settings: Settings, out: &mut [u32])
+    requires { ⌜ (badMask settings ≡ false) × (settings .total ≤ length (now out)) ⌝ }
+    ensures { λ r. ⌜ now (out .exit) ≡ entriesBelow (addressOf settings) (settings .total) ++ drop (settings .total) (now (out .entry)) ⌝ }
+{
+    let mut i: u32 = 0;
+    while i < settings.total {
+        out[i as usize] = by_number(settings, i);
+        i += 1;
+    }
+}
+
+// Whether an address is among those given. Every one is looked at: so this becomes vector code.
+fn is_among(address: u32, yielded: &[u32]) -> bool
+    ensures { λ r. ⌜ r ≡ isAmong (now (yielded .entry)) address ⌝ }
+{
+    let mut found = false;
+    let mut j = 0;
+    while j < yielded.len() {
+        found = found | (yielded[j] == address);
+        j += 1;
+    }
+    found
+}
+
+// Writes i as entry `count` if it is listed, and answers how many entries there are then.
+fn write_if(listed: bool, i: u32, count: usize, out: &mut [u32]) -> usize
+    requires { ⌜ count < length (now out) ⌝ }
+    ensures { λ r. ⌜ (r ≡ cond listed (count + 1) count) × (now (out .exit) ≡ cond listed (set (now (out .entry)) count i) (now (out .entry))) ⌝ }
+{
+    if listed {
+        out[count] = i;
+        return count + 1;
+    }
+    count
+}
+
+// Writes the iterations whose address is among those given, in rising order, and answers how many there are.
+pub(crate) fn list(settings: Settings, yielded: &[u32], out: &mut [u32]) -> usize
+    requires { ⌜ (badMask settings ≡ false) × (settings .total ≤ length (now out)) ⌝ }
+    ensures { λ r. ⌜ (r ≡ length (numbersBelow (λ i. isAmong (now (yielded .entry)) (addressOf settings i)) (settings .total))) × (now (out .exit) ≡ numbersBelow (λ i. isAmong (now (yielded .entry)) (addressOf settings i)) (settings .total) ++ drop r (now (out .entry))) ⌝ }
+{
+    let mut count = 0;
+    let mut i: u32 = 0;
+    while i < settings.total {
+        let listed = is_among(by_number(settings, i), yielded);
+        count = write_if(listed, i, count, out);
+        i += 1;
+    }
+    count
+}
