@@ -1,4 +1,5 @@
 pub mod NumbersBelow
+pub mod Blocks
 pub mod Answers
 pub mod Stepped
 pub mod AsStepped

@@ -14,6 +14,20 @@ use Rattle.addressgen.specs.Overwriting.{overwritesItself}
 use Rattle.addressgen.specs.Run.{badMask}
 use Rattle.address_at.specs.declared.Listed.{Listed}
 
+-- the numbers below n that have a property, in rising order
+abbrev pub numbersBelow : (has : ℕ → Bool) → ℕ → List ℕ
+numbersBelow has zero = []
+numbersBelow has (suc n) = numbersBelow has n ++ cond (has n) (n ∷ []) []
+
+-- an address is one of those that are yielded
+abbrev pub isAmong : List ℕ → ℕ → Bool
+isAmong yielded address = anyOf (λ other. eqb other address) yielded
+
+-- by an engine, which gives the address by the settings and the number: the iterations of the first whose address the second also yields
+abbrev pub shared : (engine : Settings → ℕ → ℕ) → Settings → Settings → List ℕ
+shared engine first second =
+    numbersBelow (λ i. isAmong (entriesBelow (engine second) (second .total)) (engine first i)) (first .total)
+
 -- how many iterations either generator may have
 abbrev pub maxIterations : ℕ
 maxIterations = 4096
@@ -29,20 +43,6 @@ grounds first second room =
     ∷ 11 ⇐ overwritesItself second
     ∷ 7 ⇐ ltb room (first .total)
     ∷ []
-
--- the numbers below n that have a property, in rising order
-abbrev pub numbersBelow : (has : ℕ → Bool) → ℕ → List ℕ
-numbersBelow has zero = []
-numbersBelow has (suc n) = numbersBelow has n ++ cond (has n) (n ∷ []) []
-
--- an address is one of those that are yielded
-abbrev pub isAmong : List ℕ → ℕ → Bool
-isAmong yielded address = anyOf (λ other. eqb other address) yielded
-
--- by an engine, which gives the address by the settings and the number: the iterations of the first whose address the second also yields
-abbrev pub shared : (engine : Settings → ℕ → ℕ) → Settings → Settings → List ℕ
-shared engine first second =
-    numbersBelow (λ i. isAmong (entriesBelow (engine second) (second .total)) (engine first i)) (first .total)
 
 -- what is listed: nothing when refused
 abbrev pub listed : (engine : Settings → ℕ → ℕ) → Settings → Settings → (refusal : Option ℕ) → List ℕ

@@ -11,6 +11,9 @@ ghost use Rattle.address_at.specs.Overlap.{numbersBelow, isAmong};
 use crate::number::by_number;
 use addressgen::Settings;
 
+// How many addresses are looked at together.
+const BLOCK: usize = 64;
+
 // Writes the addresses of all iterations from the buffer's start.
 pub(crate) fn write_all(settings: Settings, out: &mut [u32])
     requires { ⌜ (badMask settings ≡ false) × (settings .total ≤ length (now out)) ⌝ }
@@ -23,7 +26,7 @@ pub(crate) fn write_all(settings: Settings, out: &mut [u32])
     }
 }
 
-// Whether an address is among those given. Every one is looked at: so this becomes vector code.
+// Whether an address is among those given. Every one is looked at, so that this becomes vector code.
 fn is_among(address: u32, yielded: &[u32]) -> bool
     ensures { λ r. ⌜ r ≡ isAmong (now (yielded .entry)) address ⌝ }
 {
@@ -34,6 +37,21 @@ fn is_among(address: u32, yielded: &[u32]) -> bool
         j += 1;
     }
     found
+}
+
+// The same, block by block, so that the search ends with the block in which the address is found.
+fn is_found(address: u32, yielded: &[u32]) -> bool
+    ensures { λ r. ⌜ r ≡ isAmong (now (yielded .entry)) address ⌝ }
+{
+    let mut j = 0;
+    while BLOCK <= yielded.len() - j {
+        let end = j + BLOCK;
+        if is_among(address, &yielded[j..end]) {
+            return true;
+        }
+        j = end;
+    }
+    is_among(address, &yielded[j..])
 }
 
 // Writes i as entry `count` if it is listed, and answers how many entries there are then.
@@ -56,7 +74,7 @@ pub(crate) fn list(settings: Settings, yielded: &[u32], out: &mut [u32]) -> usiz
     let mut count = 0;
     let mut i: u32 = 0;
     while i < settings.total {
-        let listed = is_among(by_number(settings, i), yielded);
+        let listed = is_found(by_number(settings, i), yielded);
         count = write_if(listed, i, count, out);
         i += 1;
     }

@@ -17,7 +17,7 @@ fn steps_on(address: u32, steps: u32, stride: u32) -> u32
     ((address as u64 + reach) % ADDRESSES) as u32
 }
 
-// The address of iteration i. The product of the lengths is exact: it has 64 bits.
+// The address of iteration i. The number of its plane is that of its line by d1, so that no product of lengths is needed.
 pub(crate) fn by_number(settings: Settings, i: u32) -> u32
     requires { ⌜ badMask settings ≡ false ⌝ }
     ensures { λ r. ⌜ r ≡ addressOf settings i ⌝ }
@@ -31,6 +31,5 @@ pub(crate) fn by_number(settings: Settings, i: u32) -> u32
         return steps_on(along0, line, settings.s1);
     }
     let along1 = steps_on(along0, line % settings.d1, settings.s1);
-    let plane = settings.d0 as u64 * settings.d1 as u64;
-    steps_on(along1, (i as u64 / plane) as u32, settings.s2)
+    steps_on(along1, line / settings.d1, settings.s2)
 }

@@ -77,15 +77,15 @@ abbrev pub _gives_ : Question → Answer → Example
 question gives expected = record { question = question; expected = expected }
 
 -- the settings of P9 to P11, which are loads and differ in the mask alone
-abbrev p9Settings : (mask : ℕ) → Settings
+abbrev pub p9Settings : (mask : ℕ) → Settings
 p9Settings mask =
     record { base = 0x1000; d0 = 3; d1 = 2; total = 8; s0 = 4; s1 = 0x20; s2 = 0x100; mask = mask; store = false }
 
-abbrev p12Settings : Settings
+abbrev pub p12Settings : Settings
 p12Settings = record { base = 8; d0 = 0; d1 = 0; total = 4; s0 = 0xfffffffc; s1 = 0; s2 = 0; mask = 0; store = false }
 
 -- a store, or a load, from P9's base
-abbrev transfer : (store : Bool) (mask d0 d1 total s0 s1 s2 : ℕ) → Settings
+abbrev pub transfer : (store : Bool) (mask d0 d1 total s0 s1 s2 : ℕ) → Settings
 transfer store mask d0 d1 total s0 s1 s2 =
     record { base = 0x1000; d0 = d0; d1 = d1; total = total; s0 = s0; s1 = s1; s2 = s2; mask = mask; store = store }
 

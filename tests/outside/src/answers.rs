@@ -217,7 +217,15 @@ pub struct AddressRun {
     pub done: bool,
 }
 
-/// How a call that fills a buffer of bytes ended, and how many it wrote.
+/// The address of an iteration.
+#[repr(C)]
+#[derive(Clone, Copy, PartialEq, Eq, Debug)]
+pub struct AddressAt {
+    pub refusal: u8,
+    pub address: u32,
+}
+
+/// How a call that fills a buffer from its start ended, and how many entries it wrote.
 #[repr(C)]
 #[derive(Clone, Copy, PartialEq, Eq, Debug)]
 pub struct Filled {

@@ -95,6 +95,8 @@ extern "C" {
         out: *mut u32,
         room: usize,
     ) -> AddressRun;
+    fn floealder_address_at(settings: Settings, i: u32) -> AddressAt;
+    fn floealder_overlap(first: Settings, second: Settings, out: *mut u32, room: usize) -> Filled;
     fn floealder_strobe_plan(address: u32, n: u32, out: *mut u8, room: usize) -> Filled;
     fn floealder_report(text: *const u8, length: usize, out: *mut u8, room: usize) -> Filled;
 }
@@ -256,6 +258,14 @@ pub fn addressgen_start() -> State {
 
 pub fn addressgen_run(settings: &Settings, state: &State, n: usize, out: &mut [u32]) -> AddressRun {
     unsafe { floealder_addressgen_run(*settings, *state, n, out.as_mut_ptr(), out.len()) }
+}
+
+pub fn address_at(settings: &Settings, i: u32) -> AddressAt {
+    unsafe { floealder_address_at(*settings, i) }
+}
+
+pub fn overlap(first: &Settings, second: &Settings, out: &mut [u32]) -> Filled {
+    unsafe { floealder_overlap(*first, *second, out.as_mut_ptr(), out.len()) }
 }
 
 pub fn strobe_plan(address: u32, n: u32, out: &mut [u8]) -> Filled {

@@ -69,6 +69,14 @@ pub fn same<T: PartialEq + std::fmt::Debug>(what: &str, got: &T, want: &T) -> Re
     Err(format!("{what}: {text}"))
 }
 
+/// The kinds of an answer: what it is, and that with each thing that stood out.
+pub fn kinds_of(answer: String, found: &[(&str, bool)]) -> BTreeSet<String> {
+    let what = found.iter().filter(|(_, is)| *is);
+    let mut kinds: BTreeSet<String> = what.map(|(name, _)| format!("{answer}, {name}")).collect();
+    kinds.insert(answer);
+    kinds
+}
+
 /// Fails, with the seed, where a comparison differs, and where the kinds of answers are not those that the inputs should reach.
 pub fn agree(cases: u64, kinds: &[impl AsRef<str>], compare: impl Fn(&Random) -> Compared) {
     agree_in_all(cases, kinds, |random| {

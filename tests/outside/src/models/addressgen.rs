@@ -1,5 +1,6 @@
 //! "Address generator": a run for up to so many addresses.
 
+use super::applying;
 use crate::answers::{AddressRun, Settings, State};
 
 /// The state before the first iteration.
@@ -12,6 +13,7 @@ pub const START: State = State {
     ov: 0,
 };
 
+#[inline]
 pub fn bad_mask(s: &Settings) -> bool {
     let bit0 = s.mask & 1 != 0;
     let bit1 = s.mask & 2 != 0;
@@ -19,6 +21,7 @@ pub fn bad_mask(s: &Settings) -> bool {
 }
 
 /// A store in which a dimension that advances has stride 0.
+#[inline]
 pub fn overwrites_itself(s: &Settings) -> bool {
     let bit0 = s.mask & 1 != 0;
     let bit1 = s.mask & 2 != 0;
@@ -30,20 +33,16 @@ pub fn overwrites_itself(s: &Settings) -> bool {
 
 /// The refusals whose ground applies, in the order in which they are tried.
 pub fn grounds(s: &Settings, t: &State, n: usize, room: usize) -> Vec<u8> {
-    let table = [
+    applying(&[
         (10, bad_mask(s)),
         (11, overwrites_itself(s)),
         (6, t.ov > s.total),
         (7, room < n),
-    ];
-    table
-        .into_iter()
-        .filter(|row| row.1)
-        .map(|row| row.0)
-        .collect()
+    ])
 }
 
 /// One iteration: the address that it yields, and the state after it.
+#[inline]
 pub fn iterate(s: &Settings, t: &mut State) -> u32 {
     let bit0 = s.mask & 1 != 0;
     let bit1 = s.mask & 2 != 0;

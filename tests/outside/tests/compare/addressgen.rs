@@ -58,6 +58,11 @@ fn edge_settings(random: &Random) -> Settings {
     }
 }
 
+/// Settings of either kind.
+pub fn any_settings(random: &Random) -> Settings {
+    random.pick(&[settings, edge_settings])(random)
+}
+
 /// The start, or any state, its ov near the total or past it.
 fn state(random: &Random, total: u32) -> State {
     if random.coin() {
@@ -98,7 +103,7 @@ pub fn compare(
     random: &Random,
     call: impl Fn(&Settings, &State, usize, &mut [u32]) -> AddressRun,
 ) -> Compared {
-    let settings = random.pick(&[settings, edge_settings])(random);
+    let settings = any_settings(random);
     let mut state = state(random, settings.total);
     let mut kind = String::new();
     for _ in 0..1 + random.below(3) {

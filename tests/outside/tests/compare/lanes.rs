@@ -2,7 +2,7 @@
 
 use outside::answers::{Merged, Offer, Payload, Place, Split, Wide, CLEAN, MAX_LANES};
 use outside::models::lanes::{lane, legal_lanes, NO_OFFER};
-use outside::random::{agree_in_all, same, Random};
+use outside::random::{agree_in_all, kinds_of, same, Random};
 use outside::{linked, models};
 use std::collections::BTreeSet;
 
@@ -95,10 +95,7 @@ fn kinds(refusal: u8, lanes: u8, found: &[(&str, bool)]) -> BTreeSet<String> {
         true => format!("{refusal}, {lanes} lanes"),
         false => refusal.to_string(),
     };
-    let what = found.iter().filter(|(_, is)| *is);
-    let mut kinds: BTreeSet<String> = what.map(|(name, _)| format!("{of}, {name}")).collect();
-    kinds.insert(of);
-    kinds
+    kinds_of(of, found)
 }
 
 pub fn compare_merge(

@@ -1,5 +1,6 @@
 //! Each proved call against its model on many random inputs, valid and damaged, and a check that a wrong call is told apart.
 
+mod address_at;
 mod addressgen;
 mod bench_text;
 mod chain;

@@ -1,19 +1,22 @@
 //! The comparisons can fail: each tells a call apart that is wrong in one thing.
 
 use crate::{
-    addressgen, bench_text, chain, delivery_time, fifo, lanes, memory, monitor, mux, stream,
-    strobes,
+    address_at, addressgen, bench_text, chain, delivery_time, fifo, lanes, memory, monitor, mux,
+    stream, strobes,
 };
 use outside::answers::{
-    AddressRun, Chain, ChainRun, DeliveryTime, Fifo, Merged, Monitor, Offer, Payload, Place,
-    Settings, Split, State, StreamAnswer, Wide, BROKEN, CLEAN, MAX_DEPTH, MAX_FIFOS, MAX_LANES,
+    AddressAt, AddressRun, Chain, ChainRun, DeliveryTime, Fifo, Filled, Merged, Monitor, Offer,
+    Payload, Place, Settings, Split, State, StreamAnswer, Wide, BROKEN, CLEAN, MAX_DEPTH,
+    MAX_FIFOS, MAX_LANES,
 };
+use outside::models::address_at::{addresses, grounds_at, overlap_grounds, uncut, MAX_ITERATIONS};
 use outside::models::addressgen::{bad_mask, overwrites_itself};
 use outside::models::chain::{Line, Offered};
 use outside::models::fifo::{legal_place, Stage, NOTHING};
 use outside::models::stream::{check_stream_by, Reading, RULES};
 use outside::random::{differ, Random};
 use outside::{linked, models, states};
+use std::collections::{BTreeMap, HashSet};
 
 fn differs<T>(compare: impl Fn(&Random) -> Result<T, String>) {
     differ(2_000, compare);
@@ -963,6 +966,367 @@ fn refusal_11_in_another_place() {
                 }
                 answer
             })
+        });
+    }
+}
+
+/// A call that answers an iteration's number otherwise is told apart. It is handed the right answer.
+fn at_differs(wrong: impl Fn(&Settings, u32, AddressAt) -> AddressAt) {
+    differs(|random| {
+        address_at::compare_at(random, |settings, i| {
+            wrong(settings, i, linked::address_at(settings, i))
+        })
+    });
+}
+
+/// A call that finds another address for some iteration is told apart. It is handed the right one.
+fn address_differs(wrong: impl Fn(&Settings, u32, u32) -> u32) {
+    at_differs(|settings, i, mut answer| {
+        if answer.refusal == 0 {
+            answer.address = wrong(settings, i, answer.address);
+        }
+        answer
+    });
+}
+
+#[test]
+fn an_iteration_that_there_is_not_answered() {
+    at_differs(|settings, i, answer| match answer.refusal {
+        8 if i == settings.total => AddressAt {
+            refusal: 0,
+            address: uncut(settings, i) as u32,
+        },
+        _ => answer,
+    });
+}
+
+#[test]
+fn the_last_iteration_refused() {
+    at_differs(|settings, i, answer| match answer.refusal {
+        0 if i == settings.total - 1 => AddressAt {
+            refusal: 8,
+            address: 0,
+        },
+        _ => answer,
+    });
+}
+
+/// A call that takes this for the length of a plane is told apart.
+fn plane_differs(length: fn(u32, u32) -> u64) {
+    address_differs(|s, i, address| {
+        if s.mask != 3 {
+            return address;
+        }
+        let planes = |length: u64| (u64::from(i) / length) as u32;
+        let right = planes(u64::from(s.d0) * u64::from(s.d1));
+        let more = planes(length(s.d0, s.d1)).wrapping_sub(right);
+        address.wrapping_add(more.wrapping_mul(s.s2))
+    });
+}
+
+#[test]
+fn other_lengths_of_a_plane() {
+    plane_differs(|d0, d1| u64::from(d0) + u64::from(d1));
+    plane_differs(|d0, _| u64::from(d0));
+    // Cut to 32 bits. By 0 nothing is divided.
+    plane_differs(|d0, d1| u64::from(d0.wrapping_mul(d1).max(1)));
+}
+
+#[test]
+fn other_dimensions_by_the_mask() {
+    // The mask, and the one that it is taken for where that is legal.
+    for (mask, taken) in [(0, 1), (1, 0), (1, 3), (2, 1), (2, 3), (3, 1), (3, 2)] {
+        address_differs(|settings, i, address| {
+            let other = Settings {
+                mask: taken,
+                ..*settings
+            };
+            match settings.mask == mask && !bad_mask(&other) {
+                true => uncut(&other, i) as u32,
+                false => address,
+            }
+        });
+    }
+}
+
+#[test]
+fn an_address_of_another_number() {
+    address_differs(|settings, i, _| uncut(settings, i.wrapping_add(1)) as u32);
+    address_differs(|settings, i, _| uncut(settings, i % 65_536) as u32);
+}
+
+#[test]
+fn lines_counted_on_from_plane_to_plane() {
+    address_differs(|s, i, address| {
+        if s.mask != 3 {
+            return address;
+        }
+        let lines = i / s.d0;
+        address.wrapping_add((lines - lines % s.d1).wrapping_mul(s.s1))
+    });
+}
+
+#[test]
+fn an_iteration_refused_in_another_order() {
+    for (refusal, first) in [(10, 11), (10, 8), (11, 8)] {
+        at_differs(|settings, i, mut answer| {
+            if answer.refusal == refusal && grounds_at(settings, i).contains(&first) {
+                answer.refusal = first;
+            }
+            answer
+        });
+    }
+}
+
+/// Makes settings legal in one thing.
+type Mend = fn(&mut Settings);
+
+const MENDS: [Mend; 4] = [
+    |settings| settings.mask &= 3,
+    |settings| settings.d0 = settings.d0.max(1),
+    |settings| settings.d1 = settings.d1.max(1),
+    |settings| settings.store = false,
+];
+
+#[test]
+fn an_iteration_of_refused_settings_answered() {
+    for mend in MENDS {
+        at_differs(|settings, i, _| {
+            let mut mended = *settings;
+            mend(&mut mended);
+            linked::address_at(&mended, i)
+        });
+    }
+}
+
+#[test]
+fn a_refused_address_that_is_not_0() {
+    for refusal in [10, 11, 8] {
+        at_differs(|settings, _, mut answer| {
+            if answer.refusal == refusal {
+                answer.address = settings.base;
+            }
+            answer
+        });
+    }
+}
+
+/// A wrong overlap is told apart.
+fn overlap_differs(wrong: impl Fn(&Settings, &Settings, &mut [u32]) -> Filled) {
+    differs(|random| address_at::compare_overlap(random, &wrong));
+}
+
+/// An index that is listed, and the address of its iteration.
+type Met = (u32, u32);
+
+/// What a wrong overlap lists: of the two settings, and what is right.
+type Listing = fn(&Settings, &Settings, Vec<Met>) -> Vec<Met>;
+
+/// A call that lists other indices is told apart.
+fn listed_differs(wrong: Listing) {
+    overlap_differs(|first, second, out| {
+        let before = out.to_vec();
+        let mut filled = linked::overlap(first, second, out);
+        if filled.refusal == 0 {
+            let all: Vec<Met> = (0..).zip(addresses(first)).collect();
+            let right = out[..filled.count].iter().map(|&i| all[i as usize]);
+            let listed = wrong(first, second, right.collect());
+            out.copy_from_slice(&before);
+            for (entry, (i, _)) in out.iter_mut().zip(&listed) {
+                *entry = *i;
+            }
+            filled.count = listed.len();
+        }
+        filled
+    });
+}
+
+#[test]
+fn the_indices_of_the_second_listed() {
+    listed_differs(|_, second, right| {
+        let place = |met| (0..).zip(addresses(second)).find(|other| other.1 == met);
+        right
+            .into_iter()
+            .map(|(_, met)| place(met).unwrap())
+            .collect()
+    });
+}
+
+#[test]
+fn an_address_that_comes_twice_listed_once() {
+    // By its first index, and by its last.
+    listed_differs(|_, _, mut right| {
+        let mut seen = HashSet::new();
+        right.retain(|&(_, met)| seen.insert(met));
+        right
+    });
+    listed_differs(|_, _, right| {
+        let last: BTreeMap<u32, u32> = right.iter().map(|&(i, met)| (met, i)).collect();
+        let once = right.into_iter();
+        once.filter(|(i, met)| last[met] == *i).collect()
+    });
+}
+
+#[test]
+fn words_compared_in_place_of_addresses() {
+    listed_differs(|first, second, _| {
+        let words: HashSet<u32> = addresses(second).map(|address| address / 4).collect();
+        let all = (0..).zip(addresses(first));
+        all.filter(|(_, address)| words.contains(&(address / 4)))
+            .collect()
+    });
+}
+
+#[test]
+fn other_indices_listed() {
+    let wrong: [Listing; 5] = [
+        // The addresses themselves.
+        |_, _, right| right.into_iter().map(|(_, met)| (met, met)).collect(),
+        // Falling.
+        |_, _, right| right.into_iter().rev().collect(),
+        // Those not met.
+        |first, _, right| {
+            let all = (0..).zip(addresses(first));
+            all.filter(|other| !right.contains(other)).collect()
+        },
+        // Where both yield the same address in the same iteration.
+        |_, second, right| {
+            let all: Vec<Met> = (0..).zip(addresses(second)).collect();
+            right.into_iter().filter(|met| all.contains(met)).collect()
+        },
+        // The last iteration of the second left out.
+        |_, second, mut right| {
+            let but_one = second.total.saturating_sub(1) as usize;
+            let others: HashSet<u32> = addresses(second).take(but_one).collect();
+            right.retain(|(_, met)| others.contains(met));
+            right
+        },
+    ];
+    for wrong in wrong {
+        listed_differs(wrong);
+    }
+}
+
+#[test]
+fn entries_past_the_count_cleared() {
+    // Up to the first total, and to the end.
+    for all in [false, true] {
+        overlap_differs(|first, second, out| {
+            let filled = linked::overlap(first, second, out);
+            if filled.refusal == 0 {
+                let end = if all { out.len() } else { first.total as usize };
+                out[filled.count..end].fill(0);
+            }
+            filled
+        });
+    }
+}
+
+#[test]
+fn room_asked_for_what_is_met() {
+    overlap_differs(|first, second, out| {
+        let filled = linked::overlap(first, second, out);
+        if filled.refusal != 7 {
+            return filled;
+        }
+        let mut all = vec![0; first.total as usize];
+        let met = linked::overlap(first, second, &mut all);
+        match out.get_mut(..met.count) {
+            Some(room) => room.copy_from_slice(&all[..met.count]),
+            None => return filled,
+        }
+        met
+    });
+}
+
+#[test]
+fn an_overlap_refused_in_another_order() {
+    let wrong = [
+        ("3", "10 of the first"),
+        ("3", "11 of the first"),
+        ("3", "10 of the second"),
+        ("3", "11 of the second"),
+        ("3", "7"),
+        ("10 of the first", "11 of the first"),
+        ("10 of the first", "11 of the second"),
+        ("11 of the first", "10 of the second"),
+        ("10 of the second", "11 of the second"),
+        ("10 of the first", "7"),
+        ("11 of the first", "7"),
+        ("10 of the second", "7"),
+        ("11 of the second", "7"),
+    ];
+    for (right, tried_first) in wrong {
+        overlap_differs(|first, second, out| {
+            let mut filled = linked::overlap(first, second, out);
+            let grounds = overlap_grounds(first, second, out.len());
+            let before = grounds.iter().find(|ground| ground.1 == tried_first);
+            match (grounds.first(), before) {
+                (Some(ground), Some(&(number, _))) if ground.1 == right => filled.refusal = number,
+                _ => {}
+            }
+            filled
+        });
+    }
+}
+
+/// An overlap that refuses with this number where `wrong` says so, of the settings and the room, is told apart.
+fn overlap_refusal_differs(refusal: u8, wrong: fn(&Settings, &Settings, usize) -> bool) {
+    overlap_differs(|first, second, out| match wrong(first, second, out.len()) {
+        true => Filled { refusal, count: 0 },
+        false => linked::overlap(first, second, out),
+    });
+}
+
+#[test]
+fn other_overlaps_refused() {
+    overlap_refusal_differs(3, |first, _, _| first.total >= MAX_ITERATIONS);
+    overlap_refusal_differs(3, |_, second, _| second.total >= MAX_ITERATIONS);
+    overlap_refusal_differs(3, |first, second, _| {
+        first.total.max(second.total) <= MAX_ITERATIONS
+            && first.total + second.total > MAX_ITERATIONS
+    });
+    overlap_refusal_differs(7, |first, second, room| {
+        let others = overlap_grounds(first, second, usize::MAX);
+        others.is_empty() && room < second.total as usize
+    });
+    overlap_refusal_differs(7, |first, second, room| {
+        let others = overlap_grounds(first, second, usize::MAX);
+        others.is_empty() && room <= first.total as usize
+    });
+}
+
+#[test]
+fn refused_settings_of_one_side_overlapped() {
+    // With what is too long cut off.
+    let cut: Mend = |settings| settings.total = settings.total.min(MAX_ITERATIONS);
+    for mend in MENDS.into_iter().chain([cut]) {
+        for side in [0, 1] {
+            overlap_differs(|first, second, out| {
+                let mut sides = [*first, *second];
+                mend(&mut sides[side]);
+                linked::overlap(&sides[0], &sides[1], out)
+            });
+        }
+    }
+}
+
+#[test]
+fn a_refused_overlap_that_writes_or_counts() {
+    for refusal in [3, 10, 11, 7] {
+        overlap_differs(|first, second, out| {
+            let filled = linked::overlap(first, second, out);
+            if filled.refusal == refusal {
+                out.iter_mut().take(1).for_each(|entry| *entry ^= 1);
+            }
+            filled
+        });
+        overlap_differs(|first, second, out| {
+            let mut filled = linked::overlap(first, second, out);
+            if filled.refusal == refusal {
+                filled.count = 1;
+            }
+            filled
         });
     }
 }

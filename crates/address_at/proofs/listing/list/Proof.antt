@@ -33,8 +33,8 @@ loop-holds c = (omega arith, refl, refl, refl)
 by-number-requires : tie.Need-by-number-requires Inv-loop μ-loop
 by-number-requires c κs = c .before .before .before .before .before .pre .0
 
-is-among-requires : tie.Need-is-among-requires Inv-loop μ-loop
-is-among-requires c κs = search needs
+is-found-requires : tie.Need-is-found-requires Inv-loop μ-loop
+is-found-requires c κs = search needs
 
 write-if-requires : tie.Need-write-if-requires Inv-loop μ-loop
 write-if-requires c κs =
@@ -53,7 +53,7 @@ loop-again c =
     let l = c .before .before .before .before .before .before .before .before .loop in
     let a = c .before .before .before .before .before .before .before .before .before .before .before .args in
     let has : ℕ → Bool = isListed (a .settings) (a .yielded .now) in
-    let tested = c .before .before .before .before .is-among .ensures ∙ ap (isAmong (a .yielded .now)) (c .before .before .before .before .before .by-number .ensures) in
+    let tested = c .before .before .before .before .is-found .ensures ∙ ap (isAmong (a .yielded .now)) (c .before .before .before .before .before .by-number .ensures) in
     let wrote = c .before .before .write-if .ensures in
     let on =
     lists-on has (l .i) (a .out .now) (l .out) (l .count) (l .inv .2) (omega (arith, listed-fit has (l .i))) (l .inv .3) _ tested
@@ -77,7 +77,7 @@ list-spec =
     μ-loop
     loop-holds
     by-number-requires
-    is-among-requires
+    is-found-requires
     write-if-requires
     add-i
     loop-less

@@ -1,7 +1,7 @@
--- `address_at::number::by_number` meets its contract: its tests are the definition's, and steps that are added up modulo 2^32 one dimension
--- after another are added up modulo 2^32 at the end. Assumes nothing.
-use Prim.Native.Nat.{_*_, _≤_, _<_}
-use native.Mathlib.Nat.{mul-pos, div-le-self}
+-- `address_at::number::by_number` meets its contract: its tests are the definition's, two quotients are that by the product, and steps that are
+-- added up modulo 2^32 one dimension after another are added up modulo 2^32 at the end. Assumes nothing.
+use Prim.Native.Nat.{_<_}
+use native.Mathlib.Nat.{div-div-eq-div-mul}
 use native.Mathlib.Omega.{arith}
 use mathlib.Core.Bool.{true, false}
 use mathlib.Core.Path.{_≡_, sym, _∙_}
@@ -9,7 +9,6 @@ use borrow.Author.Needs.{needs}
 use borrow.Author.Tests.{not-true, not-false}
 use Rattle.addressgen.specs.Stepping.{bit0, bit1}
 use Rattle.addressgen.specs.Meaning.{Legal}
-use Rattle.addressgen.proofs.Products.{product-fits}
 use Rattle.addressgen.proofs.Dimensions.{d0-positive, d1-positive}
 use Rattle.address_at.proofs.number.by_number.Statement.{statement}
 use Rattle.address_at.proofs.number.by_number.Tie as tie
@@ -69,35 +68,19 @@ rem-steps-on-2 c = plane-length (c .before)
 steps-on-requires-4 : tie.Need-steps-on-requires-4
 steps-on-requires-4 c κs = search needs
 
-cast-plane : tie.Need-cast-plane
-cast-plane c = search needs
-
-cast-plane-2 : tie.Need-cast-plane-2
-cast-plane-2 c = search needs
-
-mul-plane : tie.Need-mul-plane
-mul-plane c =
-    let s = c .before .before .before .before .before .before .before .before .before .before .before .args .settings in
-    omega (arith, product-fits (s .d0) (s .d1) (omega arith) (omega arith))
-
 div-steps-on : tie.Need-div-steps-on
-div-steps-on c =
-    let tested = c .before .before .before .before in
-    mul-pos (line-length (tested .before .before .before .before .before)) (plane-length tested)
-
-cast-steps-on : tie.Need-cast-steps-on
-cast-steps-on c =
-    let a = c .before .before .before .before .before .before .before .before .before .before .before .args in
-    omega (arith, div-le-self (a .i) (a .settings .d0 * a .settings .d1))
+div-steps-on c = plane-length (c .before .before .before)
 
 steps-on-requires-5 : tie.Need-steps-on-requires-5
 steps-on-requires-5 c κs = search needs
 
 returns-3 : tie.Need-returns-3
 returns-3 c =
-    let tested = c .before .before .before .before .before in
+    let tested = c .before .before .before .before in
+    let a = tested .before .before .before .before .before .before .before .args in
+    let plane = rw (div-div-eq-div-mul (a .i) (a .settings .d0) (a .settings .d1)) at (c .steps-on5 .ensures) in
     simp (lines (tested .before .before .before .before .before), planes tested)
-    (omega (arith, tested .before .before .before .steps-on2 .ensures, c .before .before .before .steps-on4 .ensures, c .steps-on5 .ensures))
+    (omega (arith, tested .before .before .before .steps-on2 .ensures, c .before .before .steps-on4 .ensures, plane))
 
 pub by-number-spec : {M : Type 1} → statement M
 by-number-spec =
@@ -114,10 +97,6 @@ by-number-spec =
     returns-2
     rem-steps-on-2
     steps-on-requires-4
-    cast-plane
-    cast-plane-2
-    mul-plane
     div-steps-on
-    cast-steps-on
     steps-on-requires-5
     returns-3)

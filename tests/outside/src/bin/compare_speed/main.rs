@@ -17,6 +17,13 @@ use std::time::{Duration, Instant};
 const CYCLES: usize = 65_536;
 const REPETITIONS: usize = 41;
 
+/// So many iterations have the generators whose addresses are compared.
+const ITERATIONS: usize = 4_096;
+
+/// The iteration whose address is asked for, and how often in a row: once is too short.
+const NUMBER: u32 = 40_000;
+const ASKED: usize = 1_000;
+
 /// So many random traces are judged in turn.
 const TRACES: usize = 16;
 
@@ -62,16 +69,16 @@ fn medians(mut proved: impl FnMut(), mut plain: impl FnMut()) -> (Duration, Dura
     (median(of_proved), median(of_plain))
 }
 
-/// Prints the ratio of the medians, and the rates.
-fn print(what: &str, (proved, plain): (Duration, Duration)) {
+/// Prints the ratio of the medians, and the rates of so many cycles.
+fn print(what: &str, cycles: usize, (proved, plain): (Duration, Duration)) {
     let ratio = proved.as_secs_f64() / plain.as_secs_f64();
-    let rate = |time: Duration| CYCLES as f64 / time.as_secs_f64() / 1e6;
+    let rate = |time: Duration| cycles as f64 / time.as_secs_f64() / 1e6;
     let rates = [rate(proved), rate(plain)];
     println!("{ratio:5.2}   {what:<57} {:8.1} {:8.1}", rates[0], rates[1]);
 }
 
 fn compare(what: &str, proved: impl FnMut(), plain: impl FnMut()) {
-    print(what, medians(proved, plain));
+    print(what, CYCLES, medians(proved, plain));
 }
 
 type Trace = (Vec<u8>, Vec<u32>);
@@ -268,7 +275,7 @@ fn runs(offered: Offered, places: &[Place], one: Run, other: Run) -> (Duration, 
 }
 
 fn chain(what: &str, offered: Offered, places: &[Place], one: Run, other: Run) {
-    print(what, runs(offered, places, one, other));
+    print(what, CYCLES, runs(offered, places, one, other));
 }
 
 /// The proved run beside the same in plain Rust.
@@ -380,18 +387,23 @@ fn rings(random: &Random) {
     }
 }
 
-fn addresses() {
-    let settings = Settings {
+/// A store in three dimensions.
+fn planes(total: usize) -> Settings {
+    Settings {
         base: 0x1000,
         d0: 30,
         d1: 20,
-        total: CYCLES as u32,
+        total: total as u32,
         s0: 4,
         s1: 0x200,
         s2: 0x10_000,
         mask: 3,
         store: true,
-    };
+    }
+}
+
+fn addresses() {
+    let settings = planes(CYCLES);
     let mut out = vec![0; CYCLES];
     let mut plain_out = out.clone();
     let end = linked::addressgen_run(&settings, &START, CYCLES, &mut out).state;
@@ -410,6 +422,62 @@ fn addresses() {
             black_box(state);
         },
     );
+}
+
+/// An overlap of settings of which so many addresses meet.
+fn overlap(what: &str, first: Settings, second: Settings, met: usize) {
+    let mut out = vec![0; ITERATIONS];
+    let mut plain_out = Vec::new();
+    let Filled { refusal, count } = linked::overlap(&first, &second, &mut out);
+    plain::overlap(&first, &second, &mut plain_out);
+    assert_eq!((refusal, count), (0, met));
+    assert_eq!(out[..met], plain_out);
+    let timed = medians(
+        || {
+            let (first, second) = (black_box(&first), black_box(&second));
+            black_box(linked::overlap(first, second, &mut out));
+        },
+        || {
+            plain::overlap(black_box(&first), black_box(&second), &mut plain_out);
+            black_box(&plain_out);
+        },
+    );
+    print(what, ITERATIONS, timed);
+}
+
+fn overlaps() {
+    let first = planes(ITERATIONS);
+    let beside = Settings {
+        base: first.base + 2,
+        ..first
+    };
+    overlap("overlap, no address met", first, beside, 0);
+    overlap("overlap, every address met", first, first, ITERATIONS);
+}
+
+type At = fn(&Settings, u32) -> AddressAt;
+
+/// The address of one iteration beside the same in plain Rust, by quotients as well, and by stepping there.
+fn numbered() {
+    let settings = planes(CYCLES);
+    let ways: [(&str, At); 2] = [
+        ("by quotients", plain::address_by_quotients),
+        ("by stepping there", plain::address_by_stepping),
+    ];
+    for (way, plain) in ways {
+        let answer = linked::address_at(&settings, NUMBER);
+        assert_eq!((answer, answer.refusal), (plain(&settings, NUMBER), 0));
+        let asked = |at: At| {
+            for _ in 0..ASKED {
+                black_box(at(black_box(&settings), black_box(NUMBER)));
+            }
+        };
+        let (proved, plain) = medians(|| asked(linked::address_at), || asked(plain));
+        let each = |time: Duration| time.as_nanos() as f64 / ASKED as f64;
+        let (proved, plain) = (each(proved), each(plain));
+        let ratio = proved / plain;
+        println!("{ratio:7.5} {way:<57} {proved:8.1} {plain:8.1}");
+    }
 }
 
 fn main() {
@@ -445,6 +513,13 @@ fn main() {
         "ratio", "", "record", "checker"
     );
     records(record_beside_checker);
+    println!("\nratio of the time of an overlap of {ITERATIONS} iterations and {ITERATIONS} to plain Rust's,");
+    println!("and millions of iterations of the first per second of both\n");
+    println!("{:5}   {:<57} {:>8} {:>8}", "ratio", "", "proved", "plain");
+    overlaps();
+    println!("\nratio of the time for the address of iteration {NUMBER} to plain Rust's, and nanoseconds of both\n");
+    println!("{:5}   {:<57} {:>8} {:>8}", "ratio", "", "proved", "plain");
+    numbered();
     println!("\nnanoseconds a cycle of a run over FIFOs of depth {MAX_DEPTH}: all of them, each, and all in plain Rust\n");
     println!(
         "{:5}   {:<25} {:>8} {:>8} {:>8}",

@@ -1,6 +1,7 @@
 //! The same calls as one would write them in Rust.
 
 use outside::answers::*;
+use outside::models::addressgen::{bad_mask, iterate, overwrites_itself, START};
 use outside::models::chain::Offered;
 use outside::models::fifo::NOTHING;
 
@@ -385,5 +386,64 @@ pub fn addresses(s: &Settings, t: &mut State, out: &mut [u32]) {
             (t.c0, t.c1) = (1, 1);
         }
         t.ov += 1;
+    }
+}
+
+/// An iteration's refusal, or its address, by one of the ways to it.
+fn address_by(way: impl Fn(&Settings, u32) -> u32, s: &Settings, i: u32) -> AddressAt {
+    let refusal = if bad_mask(s) {
+        10
+    } else if overwrites_itself(s) {
+        11
+    } else if i >= s.total {
+        8
+    } else {
+        0
+    };
+    let address = if refusal == 0 { way(s, i) } else { 0 };
+    AddressAt { refusal, address }
+}
+
+#[inline(never)]
+pub fn address_by_quotients(s: &Settings, i: u32) -> AddressAt {
+    let way = |s: &Settings, i: u32| {
+        if s.mask & 1 == 0 {
+            return s.base.wrapping_add(i.wrapping_mul(s.s0));
+        }
+        let (mut line, word) = (i / s.d0, i % s.d0);
+        let mut address = s.base.wrapping_add(word.wrapping_mul(s.s0));
+        if s.mask == 3 {
+            address = address.wrapping_add((line / s.d1).wrapping_mul(s.s2));
+            line %= s.d1;
+        }
+        address.wrapping_add(line.wrapping_mul(s.s1))
+    };
+    address_by(way, s, i)
+}
+
+#[inline(never)]
+pub fn address_by_stepping(s: &Settings, i: u32) -> AddressAt {
+    let way = |s: &Settings, i: u32| {
+        let mut state = START;
+        for _ in 0..i {
+            iterate(s, &mut state);
+        }
+        iterate(s, &mut state)
+    };
+    address_by(way, s, i)
+}
+
+/// The iterations of the first whose address the second also yields, of settings that are not refused.
+#[inline(never)]
+pub fn overlap(first: &Settings, second: &Settings, out: &mut Vec<u32>) {
+    let mut yielded = vec![0; second.total as usize];
+    let mut state = START;
+    addresses(second, &mut state, &mut yielded);
+    out.clear();
+    state = START;
+    for i in 0..first.total {
+        if yielded.contains(&iterate(first, &mut state)) {
+            out.push(i);
+        }
     }
 }
