@@ -24,7 +24,7 @@ use Rattle.addressgen.specs.Run.{badMask}
 use Rattle.address_at.specs.ByNumber.{addressOf}
 use Rattle.address_at.specs.AddressAt.{answerOf, answerBy}
 use Rattle.address_at.specs.AddressAt as ofAddress
-use Rattle.address_at.specs.Overlap.{maxIterations, numbersBelow, isAmong, Lists}
+use Rattle.address_at.specs.Overlap.{maxIterations, metBelow, Lists}
 use Rattle.address_at.specs.Overlap as ofOverlap
 
 -- the refusal that an outcome tells, when the outcome is known
@@ -75,8 +75,8 @@ module _ (first second : Settings) (before : List ℕ) where
   pub has-listed :
       firstOf (ofOverlap.grounds first second (length before)) ≡ none →
       (yielded : List ℕ) → yielded ≡ entriesBelow (addressOf second) (second .total) →
-      (count : ℕ) → count ≡ length (numbersBelow (λ i. isAmong yielded (addressOf first i)) (first .total)) →
-      (left : List ℕ) → left ≡ numbersBelow (λ i. isAmong yielded (addressOf first i)) (first .total) ++ drop count before →
+      (count : ℕ) → count ≡ length (metBelow (addressOf first) yielded (first .total)) →
+      (left : List ℕ) → left ≡ metBelow (addressOf first) yielded (first .total) ++ drop count before →
       Lists addressOf first second before left (record { outcome = Accepted; count = count })
   has-listed e yielded f count g left h =
       record { refusal = sym e; count = rw (e, sym f) g; written = rw (e, sym f) h }

@@ -15,7 +15,7 @@ use Rattle.addressgen.specs.Meaning.{Legal, addressAt}
 use Rattle.address_at.specs.ByNumber.{addressOf}
 use Rattle.address_at.specs.AddressAt.{answerTo}
 use Rattle.address_at.specs.AddressAt as ofAddress
-use Rattle.address_at.specs.Overlap.{numbersBelow, isAmong, shared, listed}
+use Rattle.address_at.specs.Overlap.{metBelow, listed}
 use Rattle.address_at.specs.Overlap as ofOverlap
 use Rattle.address_at.specs.Meaning.{Fits, AnswersAsStepped, ListsAsStepped}
 use Rattle.address_at.proofs.Answers.{no-bad-mask, first-mask, second-mask}
@@ -37,7 +37,7 @@ module _ (first second : Settings) (fits1 : Fits first) (fits2 : Fits second) (r
       listed addressOf first second refusal ≡ listed addressAt first second refusal
   same-listed none e =
       ap₂
-      (λ (ours theirs : ℕ → ℕ). numbersBelow (λ i. isAmong (entriesBelow theirs (second .total)) (ours i)) (first .total))
+      (λ (ours theirs : ℕ → ℕ). metBelow ours (entriesBelow theirs (second .total)) (first .total))
       (same-engine first fits1 (first-mask first second room e))
       (same-engine second fits2 (second-mask first second room e))
   same-listed (some number) e = refl

@@ -23,10 +23,13 @@ numbersBelow has (suc n) = numbersBelow has n ++ cond (has n) (n ∷ []) []
 abbrev pub isAmong : List ℕ → ℕ → Bool
 isAmong yielded address = anyOf (λ other. eqb other address) yielded
 
+-- the numbers below n whose address is one of them
+abbrev pub metBelow : (address : ℕ → ℕ) → (yielded : List ℕ) → ℕ → List ℕ
+metBelow address yielded n = numbersBelow (λ i. isAmong yielded (address i)) n
+
 -- by an engine, which gives the address by the settings and the number: the iterations of the first whose address the second also yields
 abbrev pub shared : (engine : Settings → ℕ → ℕ) → Settings → Settings → List ℕ
-shared engine first second =
-    numbersBelow (λ i. isAmong (entriesBelow (engine second) (second .total)) (engine first i)) (first .total)
+shared engine first second = metBelow (engine first) (entriesBelow (engine second) (second .total)) (first .total)
 
 -- how many iterations either generator may have
 abbrev pub maxIterations : ℕ

@@ -7,7 +7,7 @@ ghost use lib.ListN.{length, drop, set};
 ghost use Rattle.signals.specs.Sequences.{entriesBelow};
 ghost use Rattle.addressgen.specs.Run.{badMask};
 ghost use Rattle.address_at.specs.ByNumber.{addressOf};
-ghost use Rattle.address_at.specs.Overlap.{numbersBelow, isAmong};
+ghost use Rattle.address_at.specs.Overlap.{isAmong, metBelow};
 use crate::number::by_number;
 use addressgen::Settings;
 
@@ -69,7 +69,7 @@ fn write_if(listed: bool, i: u32, count: usize, out: &mut [u32]) -> usize
 // Writes the iterations whose address is among those given, in rising order, and answers how many there are.
 pub(crate) fn list(settings: Settings, yielded: &[u32], out: &mut [u32]) -> usize
     requires { ⌜ (badMask settings ≡ false) × (settings .total ≤ length (now out)) ⌝ }
-    ensures { λ r. ⌜ (r ≡ length (numbersBelow (λ i. isAmong (now (yielded .entry)) (addressOf settings i)) (settings .total))) × (now (out .exit) ≡ numbersBelow (λ i. isAmong (now (yielded .entry)) (addressOf settings i)) (settings .total) ++ drop r (now (out .entry))) ⌝ }
+    ensures { λ r. ⌜ (r ≡ length (metBelow (addressOf settings) (now (yielded .entry)) (settings .total))) × (now (out .exit) ≡ metBelow (addressOf settings) (now (yielded .entry)) (settings .total) ++ drop r (now (out .entry))) ⌝ }
 {
     let mut count = 0;
     let mut i: u32 = 0;

@@ -9,7 +9,7 @@ use lib.ListN.{length, drop}
 use borrow.Author.Needs.{needs}
 use Rattle.addressgen.specs.declared.Settings.{Settings}
 use Rattle.address_at.specs.ByNumber.{addressOf}
-use Rattle.address_at.specs.Overlap.{numbersBelow, isAmong}
+use Rattle.address_at.specs.Overlap.{isAmong, metBelow}
 use Rattle.address_at.proofs.NumbersBelow.{listed-fit, lists-on}
 use Rattle.address_at.proofs.listing.list.Statement.{statement}
 use Rattle.address_at.proofs.listing.list.Tie as tie
@@ -21,8 +21,8 @@ isListed settings yielded i = isAmong yielded (addressOf settings i)
 abbrev Inv-loop : tie.InvT-loop
 Inv-loop settings yielded out₀ count₀ i₀ out count i =
     (i ≤ settings .total) × (length out ≡ length out₀)
-    × (count ≡ length (numbersBelow (isListed settings yielded) i))
-    × (out ≡ numbersBelow (isListed settings yielded) i ++ drop count out₀)
+    × (count ≡ length (metBelow (addressOf settings) yielded i))
+    × (out ≡ metBelow (addressOf settings) yielded i ++ drop count out₀)
 
 abbrev μ-loop : tie.MeasureT-loop
 μ-loop settings yielded out₀ count₀ i₀ out count i = settings .total - i

@@ -461,8 +461,14 @@ type At = fn(&Settings, u32) -> AddressAt;
 fn numbered() {
     let settings = planes(CYCLES);
     let ways: [(&str, At); 2] = [
-        ("by quotients", plain::address_by_quotients),
-        ("by stepping there", plain::address_by_stepping),
+        (
+            "address, plain Rust by quotients",
+            plain::address_by_quotients,
+        ),
+        (
+            "address, plain Rust by stepping there",
+            plain::address_by_stepping,
+        ),
     ];
     for (way, plain) in ways {
         let answer = linked::address_at(&settings, NUMBER);
@@ -476,7 +482,7 @@ fn numbered() {
         let each = |time: Duration| time.as_nanos() as f64 / ASKED as f64;
         let (proved, plain) = (each(proved), each(plain));
         let ratio = proved / plain;
-        println!("{ratio:7.5} {way:<57} {proved:8.1} {plain:8.1}");
+        println!("{ratio:7.4} {way:<57} {proved:8.1} {plain:8.1}");
     }
 }
 
