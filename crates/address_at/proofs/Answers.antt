@@ -79,7 +79,11 @@ module _ (first second : Settings) (before : List ℕ) where
       (left : List ℕ) → left ≡ metBelow (addressOf first) yielded (first .total) ++ drop count before →
       Lists addressOf first second before left (record { outcome = Accepted; count = count })
   has-listed e yielded f count g left h =
-      record { refusal = sym e; count = rw (e, sym f) g; written = rw (e, sym f) h }
+      record {
+        refusal = sym e;
+        count = rw e (g ∙ ap (λ (others : List ℕ). length (metBelow (addressOf first) others (first .total))) f);
+        written = rw e (h ∙ ap (λ (others : List ℕ). metBelow (addressOf first) others (first .total) ++ drop count before) f);
+      }
 
   pub not-listed :
       (why : Refusal) → firstOf (ofOverlap.grounds first second (length before)) ≡ some (numberOf why) →
