@@ -1,4 +1,4 @@
--- Laws that belong to no one function: those of the code, then those of demand 3 and of the exact delivery time.
+-- Laws that belong to no one function.
 pub mod Used
 pub mod Walk
 pub mod Parts
@@ -8,14 +8,6 @@ pub mod Promising
 pub mod Filling
 pub mod Bytes
 pub mod Tracing
-pub mod Order
 pub mod Need
 pub mod Timing
 pub mod Pass
-pub mod Ledger
-pub mod Outlet
-pub mod Answers
-pub mod Demand3
-pub mod ExactTime
-pub mod Examples
-pub mod TimeExamples

@@ -9,7 +9,6 @@ use lib.ListN.{length, drop}
 use borrow.Author.Tests.{lt-ltb, le-ltb}
 use Rattle.fifo.specs.Queue.{Queue}
 use Rattle.chain.specs.Timing.{fifoHolding, greatest, deliveryTime}
-use Rattle.chain.specs.ExactTime.{WithinBound}
 use Rattle.chain.proofs.Need.{count, need, by-size, need-ahead, need-mouth, need-bound, count-mouth}
 
 -- The greatest of the same numbers, and of numbers that are each one more.
@@ -65,10 +64,6 @@ need-time [] i h = let z : ⊥ = omega arith in absurd z
 need-time (q ∷ qs) i h = by-size (suc i) (count qs)
     (λ k. need-ahead q qs (suc i) k ∙ need-time qs i k ∙ ap (λ x. x + 1) (sym (time-ahead q qs i k)))
     (λ k. need-mouth q qs (suc i) k ∙ time-mouth q qs (need-time qs) i (omega arith))
-
--- the bound of `need` is one of the time
-pub within-bound : WithinBound
-within-bound qs i h = omega (arith, need-bound qs (suc i), need-time qs i h)
 
 -- Payloads of the FIFOs from place n on do not see those before it.
 pub count-dropped : (n : ℕ) (qs : List Queue) → count (drop n qs) ≤ count qs

@@ -1,6 +1,6 @@
--- Document 01, "The stage and the line": what a line of FIFOs shows, accepts, delivers and keeps in one cycle and in many.
+-- Document 01, "The stage and the line": what a line of FIFOs shows and keeps in one cycle and in many.
 -- Assumes nothing.
-use mathlib.Core.Bool.{Bool, false, cond, _&&_}
+use mathlib.Core.Bool.{Bool, false, cond}
 use mathlib.Core.List.{List, [], _∷_, map}
 use Rattle.signals.specs.declared.Payload.{Payload}
 use Rattle.signals.specs.Stream.{Sample}
@@ -24,14 +24,6 @@ readyIn qs c = cond (c .clear) false (mouth qs (c .sink))
 -- shown at the outlet; nothing in a clear
 abbrev pub shownIn : List Queue → Cycle → List Payload
 shownIn qs c = cond (c .clear) [] (outlet qs (offered c))
-
--- accepted: the offer's valid and the mouth's ready are both 1
-abbrev pub acceptedIn : List Queue → Cycle → List Payload
-acceptedIn qs c = when (c .valid && readyIn qs c) (c .payload ∷ [])
-
--- delivered: the outlet's valid and the sink's ready are both 1
-abbrev pub deliveredIn : List Queue → Cycle → List Payload
-deliveredIn qs c = when (c .sink) (shownIn qs c)
 
 -- clear goes to all
 abbrev pub after : List Queue → Cycle → List Queue

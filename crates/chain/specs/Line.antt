@@ -1,10 +1,9 @@
 -- Document 01, "The stage and the line": one cycle of FIFOs in a row, from the lists at its start. The mouth's FIFO comes first.
 -- Assumes nothing.
-use Prim.Native.Nat.{_≤_}
 use mathlib.Core.Bool.{Bool}
 use mathlib.Core.List.{List, [], _∷_, _++_}
 use Rattle.signals.specs.declared.Payload.{Payload}
-use Rattle.fifo.specs.Queue.{Queue, capacity, ready, shown, next}
+use Rattle.fifo.specs.Queue.{Queue, ready, shown, next}
 
 -- ready of what stands behind a FIFO: the next FIFO's, or the sink's
 abbrev pub mouth : List Queue → (sink : Bool) → Bool
@@ -25,8 +24,3 @@ outlet (q ∷ qs) offer = outlet qs (shown q)
 abbrev pub heldIn : List Queue → List Payload
 heldIn [] = []
 heldIn (q ∷ qs) = heldIn qs ++ q .held
-
--- each FIFO has capacity at least 2
-abbrev pub CapacityAtLeast2 : List Queue → Type 0
-CapacityAtLeast2 [] = Unit {0}
-CapacityAtLeast2 (q ∷ qs) = (2 ≤ capacity (q .place)) × CapacityAtLeast2 qs

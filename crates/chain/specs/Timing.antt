@@ -1,6 +1,6 @@
 -- Request T-12: when a held payload is delivered by a sink that is ready in every cycle, and what a call that asks for it answers. Held
--- payloads are numbered from the outlet, 0 first, and FIFOs 1 to k from the mouth. `ExactTime.antt` says what the number means.
--- Assumes nothing.
+-- payloads are numbered from the outlet, 0 first, and FIFOs 1 to k from the mouth. What the number means is said
+-- in `ExactTime.antt` of `demand3`. Assumes nothing.
 use Prim.Native.Nat.{ℕ, zero, suc, _+_, _-_, max}
 use mathlib.Core.Bool.{cond, not}
 use mathlib.Core.List.{List, [], _∷_}

@@ -1,8 +1,8 @@
 // One to sixteen FIFOs in a row, a cycle or a trace at a time.
 //
 // Writes out the line of "The stage and the line" of document 01, with requests T-06, T-08, T-09 and T-12. The crate sees of a FIFO its
-// value and its promise (`Queue` and `Promises` of `fifo`), and nothing of how it is kept. Demand 3 stands in `specs/Demand3.antt`, and
-// what the delivery time means in `specs/ExactTime.antt`.
+// value and its promise (`Queue` and `Promises` of `fifo`), and nothing of how it is kept. Demand 3, and what the delivery time means,
+// stand in the crate `demand3`.
 mod cycle;
 mod empty;
 mod form;

@@ -8,15 +8,15 @@ use mathlib.Core.List.{List, [], _∷_, map}
 use mathlib.Core.Path.{_≡_, refl}
 use Rattle.signals.specs.declared.Outcome.the-variants.{Accepted}
 use Rattle.fifo.specs.Queue.{Queue, plain, earlyStall}
 use Rattle.chain.specs.declared.DeliveryTime.{DeliveryTime}
 use Rattle.chain.specs.Line.{heldIn}
 use Rattle.chain.specs.Cycles.{Cycle}
 use Rattle.chain.specs.Timing.{deliveryTime}
 use Rattle.chain.specs.Promises.{Times}
-use Rattle.chain.specs.Demand3.{Ledger, enteredAll}
-use Rattle.chain.specs.ExactTime.{Delivers}
-use Rattle.chain.proofs.ExactTime.{exact-time, answer-is-time}
-use Rattle.chain.proofs.Examples.{word, offering, idle, narrow, nine, chainOf, nine-value}
+use Rattle.demand3.specs.Demand3.{Ledger, enteredAll}
+use Rattle.demand3.specs.ExactTime.{Delivers}
+use Rattle.demand3.proofs.ExactTime.{exact-time, answer-is-time}
+use Rattle.demand3.proofs.Examples.{word, offering, idle, narrow, nine, chainOf, nine-value}
 
 -- a line of plain FIFOs of depth 2 with an early-stall one of depth 4 in the middle, by the payloads that each holds
 abbrev line : (mouth middle end : List ℕ) → List Queue

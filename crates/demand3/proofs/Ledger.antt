@@ -11,11 +11,12 @@ use Rattle.signals.specs.declared.Payload.{Payload}
 use Rattle.signals.proofs.Bools.{both}
 use Rattle.fifo.specs.declared.Place.{Place}
 use Rattle.fifo.specs.Queue.{Queue, when, plain, empty, emptied, shown}
-use Rattle.chain.specs.Line.{mouth, cycle, heldIn, CapacityAtLeast2}
-use Rattle.chain.specs.Cycles.{Cycle, offered, readyIn, acceptedIn, deliveredIn, after, afterAll}
-use Rattle.chain.specs.Demand3.{Ledger, opened, entered, enteredAll, readies, NoClear, Begins, Drops, Clears}
-use Rattle.chain.proofs.Order.{leaving, entering, cycle-order}
-use Rattle.chain.proofs.Need.{count, need, need-ahead, need-bound, need-none, Falls, need-falls, falls-ticks, cycle-length, cycle-count, leaving-one}
+use Rattle.chain.specs.Line.{mouth, cycle, heldIn}
+use Rattle.chain.specs.Cycles.{Cycle, offered, readyIn, after, afterAll}
+use Rattle.chain.proofs.Need.{count, need, need-ahead, need-bound}
+use Rattle.demand3.specs.Demand3.{acceptedIn, deliveredIn, Ledger, opened, entered, enteredAll, CapacityAtLeast2, readies, NoClear, Begins, Drops, Clears}
+use Rattle.demand3.proofs.Order.{leaving, entering, cycle-order}
+use Rattle.demand3.proofs.Falls.{need-none, Falls, need-falls, falls-ticks, cycle-length, cycle-count, leaving-one}
 
 -- What every cycle keeps: the order, the number k of FIFOs, and their room.
 pub record Sound (k : ℕ) (l : Ledger) : Type 0 where

@@ -20,14 +20,14 @@ use Rattle.fifo.specs.Queue as queue
 use Rattle.fifo.specs.Promises as fifo
 use Rattle.fifo.proofs.Some.{fifoOf, some-fifo}
 use Rattle.places.specs.Listing.{maxFifos}
 use Rattle.chain.specs.declared.Chain.{Chain}
 use Rattle.chain.specs.declared.NewChain.{NewChain}
 use Rattle.chain.specs.Line.{heldIn}
 use Rattle.chain.specs.Cycles.{Cycle, sampleOf}
 use Rattle.chain.specs.Calls.{Call, step, run, well, grounds, accepted, answer, back}
 use Rattle.chain.specs.Promises.{value, Made, Done, Promised}
-use Rattle.chain.specs.Demand3.{Ledger, opened, enteredAll, Session, outletsIn, KeepsRules, Drops, Begins, Demand3}
-use Rattle.chain.proofs.Demand3.{demand3}
+use Rattle.demand3.specs.Demand3.{Ledger, opened, enteredAll, Session, outletsIn, KeepsRules, Drops, Begins, Demand3}
+use Rattle.demand3.proofs.Demand3.{demand3}
 
 abbrev places : List Place
 places = plain 2 ∷ earlyStall 4 ∷ []

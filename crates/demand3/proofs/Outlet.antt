@@ -13,10 +13,10 @@ use Rattle.signals.specs.Stream.{Sample, clearCycle}
 use Rattle.signals.proofs.Bools.{either}
 use Rattle.signals.proofs.Payloads.{same-payload}
 use Rattle.fifo.specs.Queue.{Queue, emptied, oldest, ready, shown, next}
 use Rattle.chain.specs.Line.{cycle, outlet}
 use Rattle.chain.specs.Cycles.{Cycle, offered, after, afterAll, sampleOf, outletIn, outletTrace}
-use Rattle.chain.specs.Demand3.{KeepsRules}
-use Rattle.chain.proofs.Need.{cycle-length}
+use Rattle.demand3.specs.Demand3.{KeepsRules}
+use Rattle.demand3.proofs.Falls.{cycle-length}
 
 -- what joins at the end does not change the oldest
 join-keeps-oldest : (held more : List Payload) (p : Payload) (ps : List Payload) → oldest held ≡ p ∷ ps → oldest (held ++ more) ≡ p ∷ ps

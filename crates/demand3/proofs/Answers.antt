@@ -17,11 +17,11 @@ use Rattle.signals.specs.Tables.{Row, firstOf}
 use Rattle.signals.proofs.Bools.{either, both, clash}
 use Rattle.signals.proofs.Tables.{none-keeps}
 use Rattle.fifo.specs.Queue.{Queue}
 use Rattle.chain.specs.Cycles.{outletTrace}
 use Rattle.chain.specs.Calls.{Call, step, run, well, stepGrounds, runGrounds, grounds, recorded, controlByte, dataWord, writtenOver, answer, answerBy}
-use Rattle.chain.specs.Demand3.{cyclesBy, readBack, outletOf, refusalIn}
-use Rattle.chain.proofs.Bytes.{sample-reads}
 use Rattle.chain.proofs.Tracing.{recorded-length, trace-length}
+use Rattle.demand3.specs.Demand3.{cyclesBy, readBack, outletOf, refusalIn}
+use Rattle.demand3.proofs.Bytes.{sample-reads}
 
 -- What was written of a trace, read again.
 trace-reads : (trace : List Sample) → readBack (map controlByte trace) (map dataWord trace) ≡ trace

@@ -14,13 +14,21 @@ use Rattle.signals.specs.Stream.{Sample, sample, clearCycle}
 use Rattle.signals.specs.Tables.{firstOf}
 use Rattle.stream_checker.specs.Rules.{breaksHeld, breaksStable}
 use Rattle.fifo.specs.declared.Place.{Place}
-use Rattle.fifo.specs.Queue.{Queue, empty}
+use Rattle.fifo.specs.Queue.{Queue, when, capacity, empty}
 use Rattle.chain.specs.declared.Chain.{Chain}
 use Rattle.chain.specs.declared.NewChain.{NewChain}
-use Rattle.chain.specs.Line.{heldIn, CapacityAtLeast2}
-use Rattle.chain.specs.Cycles.{Cycle, readyIn, acceptedIn, deliveredIn, after}
+use Rattle.chain.specs.Line.{heldIn}
+use Rattle.chain.specs.Cycles.{Cycle, readyIn, shownIn, after}
 use Rattle.chain.specs.Calls.{Call, step, run, Answer, well, grounds, asked, answer, newGrounds}
 use Rattle.chain.specs.Promises.{value, Made, Done, Promised}
+
+-- accepted: the offer's valid and the mouth's ready are both 1
+abbrev pub acceptedIn : List Queue → Cycle → List Payload
+acceptedIn qs c = when (c .valid && readyIn qs c) (c .payload ∷ [])
+
+-- delivered: the outlet's valid and the sink's ready are both 1
+abbrev pub deliveredIn : List Queue → Cycle → List Payload
+deliveredIn qs c = when (c .sink) (shownIn qs c)
 
 -- A line with what it accepted and delivered since the last clear, or since the start if there was none.
 pub record Ledger : Type 0 where
@@ -99,6 +107,11 @@ pub record Clears (l : Ledger) (c : Cycle) : Type 0 where
   pub delivers-none : deliveredIn (l .line) c ≡ []
   pub drops-held : (dropped : List Payload) → Drops l c dropped ↔ (dropped ≡ heldIn (l .line))
   pub settles : (dropped : List Payload) → Drops l c dropped → l .accepted ≡ l .delivered ++ dropped
+
+-- each FIFO has capacity at least 2
+abbrev pub CapacityAtLeast2 : List Queue → Type 0
+CapacityAtLeast2 [] = Unit {0}
+CapacityAtLeast2 (q ∷ qs) = (2 ≤ capacity (q .place)) × CapacityAtLeast2 qs
 
 -- in how many of the cycles the sink is ready
 abbrev pub readies : List Cycle → ℕ

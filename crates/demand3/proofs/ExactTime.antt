@@ -22,20 +22,21 @@ use Rattle.fifo.specs.Queue.{Queue}
 use Rattle.fifo.specs.Promises as fifo
 use Rattle.fifo.proofs.Depths.{capacity-least}
 use Rattle.fifo.proofs.Held.{held-within}
 use Rattle.chain.specs.declared.Chain.{Chain}
-use Rattle.chain.specs.Line.{heldIn, CapacityAtLeast2}
+use Rattle.chain.specs.Line.{heldIn}
 use Rattle.chain.specs.Cycles.{Cycle}
 use Rattle.chain.specs.Calls.{Value, well, isWell, queues}
 use Rattle.chain.specs.Timing.{deliveryTime, Timing, timing}
 use Rattle.chain.specs.Promises.{value, timed}
-use Rattle.chain.specs.Demand3.{Ledger, opened, entered, enteredAll, readies, NoClear, Begins}
-use Rattle.chain.specs.ExactTime.{Drains, Delivers, DeliveredAt, Claim, FromEmpty, ArrivalsAlterNothing, AnswerIsTime}
 use Rattle.chain.proofs.Used.{formed, from-start}
 use Rattle.chain.proofs.Walk.{wells-of-line}
-use Rattle.chain.proofs.Need.{count, need, by-size, need-zero, Falls}
+use Rattle.chain.proofs.Need.{count, need, by-size, need-bound}
 use Rattle.chain.proofs.Timing.{need-time}
-use Rattle.chain.proofs.Ledger.{Sound, sound-entered, sound-all, sound-opened, gone, gone-one, gone-delivered, others-held, others-need, stretch-delivers, accepted-grows}
-use Rattle.chain.proofs.Demand3.{new-legal}
+use Rattle.demand3.specs.Demand3.{Ledger, opened, entered, enteredAll, CapacityAtLeast2, readies, NoClear, Begins}
+use Rattle.demand3.specs.ExactTime.{Drains, Delivers, DeliveredAt, Claim, FromEmpty, ArrivalsAlterNothing, AnswerIsTime, WithinBound}
+use Rattle.demand3.proofs.Falls.{need-zero, Falls}
+use Rattle.demand3.proofs.Ledger.{Sound, sound-entered, sound-all, sound-opened, gone, gone-one, gone-delivered, others-held, others-need, stretch-delivers, accepted-grows}
+use Rattle.demand3.proofs.Demand3.{new-legal}
 
 -- Cycles that drain: they have no clear, the sink is ready in each, and their first n drain.
 drains-no-clear : (cs : List Cycle) → Drains cs → NoClear cs
@@ -202,3 +203,7 @@ answer-is-time given i r times accepted l v cs d enough n = by-held (leb (count 
         let same : r .cycles ≡ deliveryTime (l .line) i = ap (λ (t : Timing). t .cycles) (rw e at answered) in
         rw same
         (exact-time l (chain-room given (l .line) v) i (leb-false (count (l .line)) i e) cs d (omega (arith, same, enough)) n)
+
+-- the bound of `need` is one of the time
+pub within-bound : WithinBound
+within-bound qs i h = omega (arith, need-bound qs (suc i), need-time qs i h)

@@ -1,5 +1,5 @@
 -- Request T-12: the exact delivery time. One claim about every line whose FIFOs have capacity at least 2, and what follows from it. They
--- are proved in `proofs/ExactTime.antt`, the last in `proofs/Timing.antt`. Assumes nothing.
+-- are proved in `proofs/ExactTime.antt`. Assumes nothing.
 use Prim.Native.Nat.{ℕ, _+_, _-_, _≤_, _<_}
 use mathlib.Core.Bool.{true, false}
 use mathlib.Core.List.{List, [], _∷_, _++_}
@@ -11,14 +11,14 @@ use Rattle.signals.specs.Refusals.{refusalOf, accepts}
 use Rattle.signals.specs.Tables.{firstOf}
 use Rattle.fifo.specs.declared.Place.{Place}
 use Rattle.fifo.specs.Queue.{Queue}
 use Rattle.chain.specs.declared.Chain.{Chain}
 use Rattle.chain.specs.declared.DeliveryTime.{DeliveryTime}
-use Rattle.chain.specs.Line.{heldIn, CapacityAtLeast2}
+use Rattle.chain.specs.Line.{heldIn}
 use Rattle.chain.specs.Cycles.{Cycle}
 use Rattle.chain.specs.Calls.{well, newGrounds}
 use Rattle.chain.specs.Timing.{deliveryTime}
 use Rattle.chain.specs.Promises.{value, Times}
-use Rattle.chain.specs.Demand3.{Ledger, opened, enteredAll}
+use Rattle.demand3.specs.Demand3.{Ledger, opened, enteredAll, CapacityAtLeast2}
 
 -- in every cycle the sink is ready, and there is no clear; whatever is offered
 abbrev pub Drains : List Cycle → Type 0
