@@ -1,17 +1,16 @@
 -- Both calls answer as if the addresses were stepped to: where neither settings are refused the engines are equal, and a refused call
 -- answers by no engine. Assumes nothing.
 use Prim.Native.Nat.{ℕ}
-use mathlib.Core.Bool.{true, false}
+use mathlib.Core.Bool.{false}
 use mathlib.Core.List.{List}
-use mathlib.Core.Logic.{⊎-elim}
 use mathlib.Core.Option.{Option, none, some}
-use mathlib.Core.Path.{_≡_, refl, sym, _∙_, ap, ap₂, fun-ext}
+use mathlib.Core.Path.{_≡_, refl, ap, ap₂, fun-ext}
 use lib.ListN.{length}
 use Rattle.signals.specs.Tables.{firstOf}
 use Rattle.signals.specs.Sequences.{entriesBelow}
 use Rattle.addressgen.specs.declared.Settings.{Settings}
 use Rattle.addressgen.specs.Run.{badMask}
-use Rattle.addressgen.specs.Meaning.{Legal, addressAt}
+use Rattle.addressgen.specs.Meaning.{addressAt}
 use Rattle.address_at.specs.ByNumber.{addressOf}
 use Rattle.address_at.specs.AddressAt.{answerTo}
 use Rattle.address_at.specs.AddressAt as ofAddress

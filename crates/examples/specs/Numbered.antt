@@ -1,7 +1,7 @@
 -- Request T-14: addresses by their number and the addresses that two generators share, N1 to N8 and O1 to O6, as one list of questions with
 -- their answers, and one claim: these are the definitions' answers. It is checked by computation. Assumes nothing.
 use Prim.Native.Nat.{ℕ}
-use mathlib.Core.Bool.{Bool, true, false}
+use mathlib.Core.Bool.{true, false}
 use mathlib.Core.List.{List, [], _∷_, map}
 use mathlib.Core.Option.{Option, none, some}
 use mathlib.Core.Path.{_≡_, refl}

@@ -1,6 +1,5 @@
 -- `address_at::overlap` meets its contract: unless there is a refusal, the second's addresses are written to an array, and the first's looked
 -- for in it. Assumes nothing.
-use native.Mathlib.Omega.{arith}
 use mathlib.Core.Path.{sym}
 use lib.Seq.{length-take-le}
 use borrow.Author.Needs.{needs}
