@@ -2,8 +2,12 @@
 -- Assumes nothing.
 use Prim.Native.Nat.{ℕ, _^_, _<_}
 use mathlib.Core.List.{List}
+use mathlib.Core.Option.{none}
 use mathlib.Core.Path.{_≡_}
+use Rattle.signals.specs.Sequences.{entriesBelow}
 use Rattle.addressgen.specs.declared.Settings.{Settings}
+use Rattle.addressgen.specs.Stepping.{start, addresses}
+use Rattle.addressgen.specs.Run.{ranOf}
 use Rattle.addressgen.specs.Meaning.{Legal, addressAt}
 use Rattle.address_at.specs.declared.Listed.{Listed}
 use Rattle.address_at.specs.ByNumber.{addressOf}
@@ -18,6 +22,12 @@ pub record Fits (s : Settings) : Type 0 where
 -- with legal settings the address by number is that of the iteration that is stepped to, whatever the strides, the base and the number
 abbrev pub NumberedIsStepped : Type 0
 NumberedIsStepped = (s : Settings) → Legal s → (i : ℕ) → addressOf s i ≡ addressAt s i
+
+-- a run from the start state writes the addresses by their numbers
+abbrev pub RunsAsNumbered : Type 0
+RunsAsNumbered =
+    (s : Settings) (n room : ℕ) → Fits s → ranOf s start n room .refusal ≡ none →
+    addresses s start (ranOf s start n room .count) ≡ entriesBelow (addressOf s) (ranOf s start n room .count)
 
 -- `address_at` answers what stepping there answers
 abbrev pub AnswersAsStepped : Type 0

@@ -22,7 +22,7 @@ use Rattle.addressgen.proofs.Stepping.{after-rises, after-adds, address
 
 module _ (s : Settings) (t : State) (n room : ℕ) where
   -- an answer without a refusal: no ground applied
-  no-ground : ranOf s t n room .refusal ≡ none → NoneIn (grounds s t n room)
+  pub no-ground : ranOf s t n room .refusal ≡ none → NoneIn (grounds s t n room)
   no-ground e = none-keeps (grounds s t n room) (sym (given-refusal s t n (firstOf (grounds s t n room))) ∙ e)
 
   -- with legal settings, ov at most total and room the answer is that of the iterations

@@ -455,35 +455,34 @@ fn overlaps() {
     overlap("overlap, every address met", first, first, ITERATIONS);
 }
 
-type At = fn(&Settings, u32) -> AddressAt;
-
-/// The address of one iteration beside the same in plain Rust, by quotients as well, and by stepping there.
-fn numbered() {
+/// The address of an iteration by its number beside another way to it.
+fn number_beside(what: &str, mut other: impl FnMut(&Settings, u32) -> AddressAt) {
     let settings = planes(CYCLES);
-    let ways: [(&str, At); 2] = [
-        (
-            "address, plain Rust by quotients",
-            plain::address_by_quotients,
-        ),
-        (
-            "address, plain Rust by stepping there",
-            plain::address_by_stepping,
-        ),
-    ];
-    for (way, plain) in ways {
-        let answer = linked::address_at(&settings, NUMBER);
-        assert_eq!((answer, answer.refusal), (plain(&settings, NUMBER), 0));
-        let asked = |at: At| {
-            for _ in 0..ASKED {
-                black_box(at(black_box(&settings), black_box(NUMBER)));
-            }
-        };
-        let (proved, plain) = medians(|| asked(linked::address_at), || asked(plain));
-        let each = |time: Duration| time.as_nanos() as f64 / ASKED as f64;
-        let (proved, plain) = (each(proved), each(plain));
-        let ratio = proved / plain;
-        println!("{ratio:7.4} {way:<57} {proved:8.1} {plain:8.1}");
-    }
+    let answer = linked::address_at(&settings, NUMBER);
+    assert_eq!((answer, answer.refusal), (other(&settings, NUMBER), 0));
+    let asked = |at: &mut dyn FnMut(&Settings, u32) -> AddressAt| {
+        for _ in 0..ASKED {
+            black_box(at(black_box(&settings), black_box(NUMBER)));
+        }
+    };
+    let (number, other) = medians(|| asked(&mut linked::address_at), || asked(&mut other));
+    let each = |time: Duration| time.as_nanos() as f64 / ASKED as f64;
+    let (number, other) = (each(number), each(other));
+    let ratio = number / other;
+    println!("{ratio:7.4} {what:<57} {number:8.1} {other:8.1}");
+}
+
+fn numbers() {
+    number_beside("plain Rust by quotients", plain::address_by_quotients);
+    number_beside("plain Rust that steps there", plain::address_by_stepping);
+    let mut words = vec![0; NUMBER as usize + 1];
+    number_beside("the proved run that steps there", |settings, i| {
+        let ran = linked::addressgen_run(settings, &START, words.len(), &mut words);
+        AddressAt {
+            refusal: ran.refusal,
+            address: words[i as usize],
+        }
+    });
 }
 
 fn main() {
@@ -523,9 +522,9 @@ fn main() {
     println!("and millions of iterations of the first per second of both\n");
     println!("{:5}   {:<57} {:>8} {:>8}", "ratio", "", "proved", "plain");
     overlaps();
-    println!("\nratio of the time for the address of iteration {NUMBER} to plain Rust's, and nanoseconds of both\n");
-    println!("{:5}   {:<57} {:>8} {:>8}", "ratio", "", "proved", "plain");
-    numbered();
+    println!("\nratio of the time for address {NUMBER} by its number to that of another way, and nanoseconds of both\n");
+    println!("{:7} {:<57} {:>8} {:>8}", "ratio", "", "number", "other");
+    numbers();
     println!("\nnanoseconds a cycle of a run over FIFOs of depth {MAX_DEPTH}: all of them, each, and all in plain Rust\n");
     println!(
         "{:5}   {:<25} {:>8} {:>8} {:>8}",
