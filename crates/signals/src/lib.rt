@@ -1,6 +1,8 @@
 // The signals of HWPE traces as they are recorded, and the refusals that every call of the tool shares.
 //
 // Writes out "Traces as recorded" and "Refusal numbers" of document 01. `stream` and `memory` read the two control bytes.
+#![tactic(auto)]
+
 pub mod memory;
 pub mod stream;
 
@@ -41,14 +43,14 @@ pub fn max_strb() -> u8
 
 // What a stream carries in one cycle: a word, and a strobe bit for each of its bytes.
 #[repr(C)]
-#[derive(Drop)]
+#[derive(Clone, Copy)]
 pub struct Payload {
     pub data: u32,
     pub strb: u8,
 }
 
 // What is wrong with a refused input. `specs/Refusals.antt` gives each its number.
-#[derive(Drop)]
+#[derive(Clone, Copy)]
 pub enum Refusal {
     LengthsDiffer,
     IllegalBits,
@@ -65,7 +67,7 @@ pub enum Refusal {
 }
 
 // How a call that answers with a state ended.
-#[derive(Drop)]
+#[derive(Clone, Copy)]
 pub enum Outcome {
     Accepted,
     Refused(Refusal),
