@@ -4,9 +4,9 @@ use Prim.Native.Nat.{ℕ, zero, suc, ◌+◌}
 use native.Mathlib.Nat.{add-zero, add-suc}
 use mathlib.Core.Bool.{Bool, true, false, cond}
 use mathlib.Core.Option.{Option, none, some}
-use mathlib.Core.Path.{◌≡◌, ◌∙◌, ap, ap₂}
+use mathlib.Core.Path.{◌≡◌, ap}
 use Rattle.signals.specs.Stream.{Sample, clear_cycle}
-use Rattle.stream_checker.specs.Rules.{stalled, breaks_held, breaks_stable, between, counter, carries_counter, last_counter, out_of_seq, in_order, unless_clear}
+use Rattle.stream_checker.specs.Rules.{stalled, breaks_held, breaks_stable, between, counter, carries_counter, last_counter}
 use Rattle.stream_checker.specs.Meaning.{Afresh}
 
 module _ (trace : ℕ → Sample) (c : ℕ) (clear : clear_cycle (trace c) ≡ true) where

@@ -1,6 +1,6 @@
 -- Rule seq by index. By induction `last_counter` is the counter of the last cycle that carried one since a clear cycle (`LastSays`), and
 -- there is only one such cycle. Assumes nothing.
-use Prim.Native.Nat.{ℕ, zero, suc, ◌<◌}
+use Prim.Native.Nat.{ℕ, zero, suc}
 use native.Mathlib.Omega.{arith}
 use mathlib.Core.Bool.{true, false, not, ◌&&◌, false≢true}
 use mathlib.Core.Logic.{⊎_elim}

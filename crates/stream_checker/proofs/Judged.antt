@@ -21,7 +21,7 @@ use Rattle.stream_checker.specs.declared.Seen.{Seen}
 use Rattle.stream_checker.specs.declared.watch.Watch.{Watch}
 use Rattle.stream_checker.specs.Rules.{rules}
 use Rattle.stream_checker.specs.Verdicts.{handshake_at, clear_at, Answer, answer_below}
-use Rattle.stream_checker.specs.Step.{start, rules_of, rules_after, next, watch_after, rules_from, Sight, sight_below, finding_of, sight_of, SoFar}
+use Rattle.stream_checker.specs.Step.{start, rules_of, rules_after, next, rules_from, Sight, sight_below, finding_of, sight_of, SoFar}
 use Rattle.stream_checker.specs.Step.Sight.{finding, handshakes, clears}
 use Rattle.stream_checker.specs.Written.{rule_name}
 use Rattle.stream_checker.proofs.Follows.{rules_from_start}

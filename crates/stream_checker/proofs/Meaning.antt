@@ -1,15 +1,12 @@
 -- What the answer of `check_stream` means: the judgement by `means` of signals, for the stream's grounds and rules, and the clear cycles
 -- by what the verdict says. Assumes nothing.
-use Prim.Native.Nat.{ℕ}
-use mathlib.Core.Path.{◌≡◌, refl, ◌∙◌, ap}
+use mathlib.Core.Path.{ap}
 use lib.ListN.{length}
-use Rattle.signals.specs.Judging.{Finding, clean, broken, count_below, cycles_counted}
-use Rattle.signals.specs.Stream.{Sample, sample_at}
-use Rattle.signals.specs.Tables.{first_applying}
-use Rattle.signals.specs.Written.{RuleName, Written, judged, refused, Judgement, unless_refused}
+use Rattle.signals.specs.Stream.{sample_at}
+use Rattle.signals.specs.Written.{Written}
 use Rattle.signals.proofs.Written.{means}
 use Rattle.stream_checker.specs.Rules.{rules}
-use Rattle.stream_checker.specs.Verdicts.{grounds, handshake_at, clear_at, judged_below, clears_by, check_stream}
+use Rattle.stream_checker.specs.Verdicts.{grounds, handshake_at, clears_by, check_stream}
 use Rattle.stream_checker.specs.Meaning.{EveryAnswer}
 
 pub every_answer_lem : EveryAnswer

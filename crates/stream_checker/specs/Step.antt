@@ -1,6 +1,6 @@
 -- The checker's step over one cycle: what it keeps of the cycles before, which rule one more breaks first, and so over further cycles.
 -- `judge_cycles` and the private functions cite this; the promise of `check_stream` does not. Assumes nothing.
-use Rattle.std.specs.Prelude.{ℕ, zero, suc, ◌<◌, ◌≤◌, Bool, true, false, cond, not, ◌&&◌, ◌||◌, List, [], ◌∷◌, ◌≡◌, eqb, get_or}
+use Rattle.std.specs.Prelude.{ℕ, zero, suc, ◌<◌, ◌≤◌, Bool, false, cond, not, ◌&&◌, ◌||◌, List, [], ◌∷◌, ◌≡◌, eqb, get_or}
 use Rattle.std.proofs.Math.Option.{Option, none, some}
 use Rattle.signals.specs.Judging.{Finding, clean, broken, count_below, finding_below, cycles_counted}
 use Rattle.signals.specs.Stream.{Sample, sample, sample_at, clear_cycle}

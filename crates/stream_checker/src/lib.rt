@@ -1,6 +1,8 @@
 // The checker of HWPE-Stream traces: which cycle breaks a rule first, and which rule.
 //
 // Writes out "Stream rules" of document 01, with requests T-04 and T-09. It is document 01's judge of HWPE-Stream traces.
+#![tactic(auto)]
+
 pub mod watch;
 
 ghost use Rattle.std.specs.Prelude.{cond, ◌≡◌, ◌+◌, ◌<◌, ◌≤◌, ◌^◌, min, length};
@@ -17,7 +19,7 @@ use signals::{MAX_CYCLES, Outcome, Refusal, SEQ};
 use watch::{Breach, Watch, handshake};
 
 // The rules, by what each asks. `specs/Written.antt` gives each its name in document 01.
-#[derive(Drop)]
+#[derive(Clone, Copy)]
 pub enum Rule {
     // Rule 4: a valid that is not taken stays.
     Held,
@@ -40,7 +42,7 @@ impl Rule {
     }
 }
 
-#[derive(Drop)]
+#[derive(Clone, Copy)]
 pub enum Verdict {
     Clean,
     Broken(Rule, u32),
@@ -48,14 +50,14 @@ pub enum Verdict {
 }
 
 // What is found in further cycles: no breach, or the first with its place among them.
-#[derive(Drop)]
+#[derive(Clone, Copy)]
 pub enum Found {
     NoBreach,
     First(Rule, usize),
 }
 
 // With it, the handshakes and the clears among the cycles before the breach, or among all, and what the next cycle is judged by.
-#[derive(Drop)]
+#[derive(Clone, Copy)]
 pub struct Seen {
     pub found: Found,
     pub handshakes: usize,
@@ -64,7 +66,7 @@ pub struct Seen {
 }
 
 // What is seen up to and with the next clear cycle, and the place after it.
-#[derive(Drop)]
+#[derive(Clone, Copy)]
 struct Stretch {
     found: Found,
     end: usize,
@@ -74,7 +76,7 @@ struct Stretch {
 }
 
 // A verdict, with the handshakes and the clears before the broken cycle, or in all cycles when clean.
-#[derive(Drop)]
+#[derive(Clone, Copy)]
 pub struct Checked {
     pub verdict: Verdict,
     pub handshakes: u32,

@@ -13,14 +13,14 @@ use signals::stream::{clear, ready, strb, valid};
 const COUNTERS: u32 = 65536;
 
 // What is found in one cycle.
-#[derive(Drop)]
+#[derive(Clone, Copy)]
 pub(crate) enum Breach {
     Nothing,
     Of(Rule),
 }
 
 // What the next cycle is judged by.
-#[derive(Drop)]
+#[derive(Clone, Copy)]
 pub struct Watch {
     // The cycle before.
     pub control: u8,
