@@ -1,6 +1,8 @@
 // The checkers of HWPE-Mem and HWPE-MemDecoupled traces: which cycle broke a rule first, and which rule.
 //
 // Writes out "Memory rules" of document 01. They are document 01's judges of memory traces.
+#![tactic(auto)]
+
 mod watch; // watch.rt: what the rules remember of the cycles before
 mod cycles; // cycles.rt: the loop that judges a trace, for both protocols
 
@@ -13,7 +15,7 @@ ghost use Rattle.mem_checker.specs.Step.{protocol_of};
 use signals::{MAX_CYCLES, Refusal};
 
 // The rules, by what each is about. `specs/Written.antt` gives each its name in document 01.
-#[derive(Drop)]
+#[derive(Clone, Copy)]
 pub enum Rule {
     // HWPE-Mem rule 2: a read is answered in the next cycle.
     Response,
@@ -23,7 +25,7 @@ pub enum Rule {
     Align,
 }
 
-#[derive(Drop)]
+#[derive(Clone, Copy)]
 pub enum Verdict {
     Clean,
     Broken(Rule, u32),
@@ -31,7 +33,7 @@ pub enum Verdict {
 }
 
 // A verdict, with the handshakes before the broken cycle, or in all cycles when clean, and whether a read is still open.
-#[derive(Drop)]
+#[derive(Clone, Copy)]
 pub struct Checked {
     pub verdict: Verdict,
     pub handshakes: u32,

@@ -8,7 +8,7 @@ ghost use Rattle.mem_checker.specs.Step.{own_rule, start, breaks_response, break
 use crate::Rule;
 use signals::memory::{gnt, r_valid, req, wen};
 
-#[derive(Drop)]
+#[derive(Clone, Copy)]
 pub(crate) struct Watch {
     // The cycle before was a read handshake.
     pub(crate) reading: bool,
