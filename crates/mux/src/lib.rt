@@ -1,6 +1,8 @@
 // The fixed-select mux: a part of one of two recorded control traces, itself and no copy.
 //
 // Writes out "Fixed-select mux" of document 01. No control byte is read.
+#![tactic(auto)]
+
 ghost use Rattle.std.specs.Prelude.{◌≡◌, ◌+◌, ◌≤◌, length};
 ghost use Rattle.mux.specs.Mux.{part_at, part_of, out_of_range, muxed};
 
