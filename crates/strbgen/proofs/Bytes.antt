@@ -7,13 +7,12 @@ use mathlib.Core.List.{List, [], ◌∷◌, ◌++◌}
 use mathlib.Core.Logic.{⊎_elim}
 use mathlib.Core.Path.{◌≡◌, refl, sym, ◌∙◌}
 use lib.Dec.{eqb, ltb, leb}
-use borrow.Author.Tests.{lt-ltb, le-ltb, le-leb, ne_eqb, eqb-true, eqb-false, ltb-true, ltb-false}
+use borrow.Author.Tests.{lt-ltb, le-ltb, le-leb, eq-eqb, ne_eqb, eqb-true, eqb-false, ltb-true, ltb-false}
 use Rattle.signals.specs.Payloads.{strobed}
 use Rattle.signals.specs.Sequences.{entries_below}
 use Rattle.signals.proofs.Bools.{either}
 use Rattle.strbgen.specs.Plan.{word_count, first_strobe, last_strobe, strobe_at, strobes}
 use Rattle.strbgen.specs.Bytes.{bytes_in, bytes_named, ExactBytes}
-use Rattle.strbgen.proofs.Given.{between, last_word}
 use Rattle.strbgen.proofs.Table.{first_and_last, first_strobed, last_strobed, full_strobed}
 
 -- the bytes of a plan that has one more word
@@ -29,12 +28,19 @@ module _ (m words : ℕ) where
   abbrev below : ℕ → List ℕ
   below i = entries_below (strobe_at m words) i
 
+  -- a word that is neither first nor last is full
+  between : (k : ℕ) → suc (suc k) < words → strobe_at m words (suc k) ≡ 15
+  between k h = simp (ne_eqb (suc k) 0 (λ e. omega arith), ne_eqb (suc k + 1) words (λ e. omega arith))
+
+  last_word : (k : ℕ) → suc (suc k) ≡ words → strobe_at m words (suc k) ≡ last_strobe m
+  last_word k e = simp (ne_eqb (suc k) 0 (λ z. omega arith), eq-eqb (suc k + 1) words (omega arith))
+
   -- up to the last word: the first word, and k full ones
   before_last : (k : ℕ) → suc k < words → bytes_named (below (suc k)) ≡ bytes_in (first_strobe m) + 4 * k
   unfolding bytes_in
   before_last zero h = omega arith
   before_last (suc k) h =
-      one_more (below (suc k)) (strobe_at m words (suc k)) ∙ rw (between m words (suc k) (omega arith) (omega arith), before_last k (omega arith)) (four_more (bytes_in (first_strobe m)))
+      one_more (below (suc k)) (strobe_at m words (suc k)) ∙ rw (between k (omega arith), before_last k (omega arith)) (four_more (bytes_in (first_strobe m)))
     where
       four_more : (a : ℕ) → a + 4 * k + 4 ≡ a + 4 * suc k
       four_more a = omega arith
@@ -43,7 +49,7 @@ module _ (m words : ℕ) where
   whole : (k : ℕ) → suc (suc k) ≡ words → bytes_named (below (suc (suc k))) ≡ bytes_in (first_strobe m) + bytes_in (last_strobe m) + 4 * k
   whole k e =
       one_more (below (suc k)) (strobe_at m words (suc k)) ∙
-      rw (last_word m words (suc k) (omega arith) (omega arith), before_last k (omega arith)) (swap (bytes_in (first_strobe m)) (bytes_in (last_strobe m)))
+      rw (last_word k e, before_last k (omega arith)) (swap (bytes_in (first_strobe m)) (bytes_in (last_strobe m)))
     where
       swap : (a b : ℕ) → a + 4 * k + b ≡ a + b + 4 * k
       swap a b = omega arith
@@ -99,7 +105,7 @@ module _ (m j : ℕ) (m-less : m < 4) (j-less : j < 4) where
 
   place_between : (n w k : ℕ) → suc (suc k) < w → suc k < n → Placed n w (suc k)
   place_between n w k h g =
-      rw (between m w (suc k) (omega arith) (omega arith)) (full_strobed j j-less ∙ sym (inside m n (suc k) j (omega arith) (omega arith)))
+      rw (between m w k h) (full_strobed j j-less ∙ sym (inside m n (suc k) j (omega arith) (omega arith)))
 
   place_aligned : (n i : ℕ) → i < n → eqb m 0 ≡ true → Placed n n i
   place_aligned n zero h e = place_first n n (omega arith)
@@ -108,7 +114,7 @@ module _ (m j : ℕ) (m-less : m < 4) (j-less : j < 4) where
       at_last : eqb (suc (suc k)) n ≡ true → Placed n n (suc k)
       at_last t =
           let zero-m = eqb-true m 0 e in
-          rw (last_word m n (suc k) (omega arith) (omega (arith, eqb-true (suc (suc k)) n t)), inside m n (suc k) j (omega arith) (omega (arith, eqb-true (suc (suc k)) n t)))
+          rw (last_word m n k (eqb-true (suc (suc k)) n t), inside m n (suc k) j (omega arith) (omega (arith, eqb-true (suc (suc k)) n t)))
           (last_strobed m j m-less j-less ∙ simp e)
 
       in_between : eqb (suc (suc k)) n ≡ false → Placed n n (suc k)
@@ -124,7 +130,7 @@ module _ (m j : ℕ) (m-less : m < 4) (j-less : j < 4) where
       at_last : eqb k p ≡ true → Placed (suc p) (suc (suc p)) (suc k)
       at_last t =
           let q : k ≡ p = eqb-true k p t in
-          rw (q, last_word m (suc (suc p)) (suc p) (omega arith) (omega arith), within_last m (suc p) j m-less (omega arith))
+          rw (q, last_word m (suc (suc p)) p refl, within_last m (suc p) j m-less (omega arith))
           (last_strobed m j m-less j-less ∙ simp e)
 
       in_between : eqb k p ≡ false → Placed (suc p) (suc (suc p)) (suc k)

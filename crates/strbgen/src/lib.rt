@@ -1,6 +1,8 @@
 // The strobe plan: which bytes of each word a row of 32-bit packets fills, from a byte address on.
 //
 // Writes out "Strobe plan" of document 01.
+#![tactic(auto)]
+
 ghost use Rattle.std.specs.Prelude.{◌≡◌, ◌++◌, ◌%◌, ◌<◌, ◌≤◌, length, drop};
 ghost use Rattle.strbgen.specs.Plan.{max_packets, word_count, first_strobe, last_strobe, strobe_at, strobes, is_plan, Planned};
 
@@ -13,7 +15,7 @@ const FIRST: [u8; 4] = [15, 14, 12, 8];
 const LAST: [u8; 4] = [15, 1, 3, 7];
 
 // How a call ended, and how many words its plan has: none where it is refused.
-#[derive(Drop)]
+#[derive(Clone, Copy)]
 pub struct Plan {
     pub outcome: signals::Outcome,
     pub words: usize,
