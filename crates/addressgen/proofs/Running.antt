@@ -1,6 +1,6 @@
 -- What a run promises, in its two cases: refused, by the number that is given, and accepted. The rise of ov is that of so many
 -- iterations. Assumes nothing.
-use Rattle.std.proofs.Common.{◌≡◌, ℕ, ◌+◌, eqb, List, ◌++◌, length, drop, refl, ap, ◌∙◌, arith}
+use Rattle.std.proofs.Common.{◌≡◌, ℕ, eqb, List, ◌++◌, length, drop, refl, ap, ◌∙◌, arith}
 use mathlib.Core.Option.{Option, none, some}
 use Rattle.signals.specs.Tables.{first_applying}
 use Rattle.signals.specs.declared.Outcome.TheVariants.{Accepted}

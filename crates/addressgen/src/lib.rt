@@ -1,6 +1,8 @@
 // The three-dimensional address generator: its settings, its state, and a run of it into a lent buffer of words.
 //
 // Writes out "Address generator" of document 01, with the mark for load or store and refusal 11 of request T-07.
+#![tactic(auto)]
+
 ghost use Rattle.std.specs.Prelude.{◌≡◌, ◌-◌, ◌<◌, ◌≤◌, ◌++◌, length, drop};
 ghost use Rattle.signals.specs.Refusals.{number_of};
 ghost use Rattle.addressgen.specs.Stepping.{◌⊕◌, bit0, bit1, start, address, next, after, addresses};
@@ -16,7 +18,7 @@ const COUNT_FROM: u32 = 1;
 // Base address, lengths of dimensions 0 and 1, how many iterations there are, strides, the dimension mask, and whether this is a store
 // or a load.
 #[repr(C)]
-#[derive(Drop)]
+#[derive(Clone, Copy)]
 pub struct Settings {
     pub base: u32,
     pub d0: u32,
@@ -31,7 +33,7 @@ pub struct Settings {
 
 // How far each dimension has come, the counters of dimensions 0 and 1, and how many iterations were made.
 #[repr(C)]
-#[derive(Drop)]
+#[derive(Clone, Copy)]
 pub struct State {
     pub a0: u32,
     pub a1: u32,
@@ -42,7 +44,7 @@ pub struct State {
 }
 
 // How a run ended, how many iterations it made, the state afterwards, and whether every iteration is made.
-#[derive(Drop)]
+#[derive(Clone, Copy)]
 pub struct Ran {
     pub outcome: signals::Outcome,
     pub count: usize,
