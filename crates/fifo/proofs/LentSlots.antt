@@ -4,7 +4,7 @@ use Prim.Native.Nat.{ℕ, zero, suc, ◌+◌, ◌≤◌, ◌<◌}
 use native.Mathlib.Numerals.{add-one}
 use native.Mathlib.Omega.{arith}
 use mathlib.Core.Bool.{Bool, true, false, cond, ◌&&◌}
-use mathlib.Core.List.{List, [], ◌∷◌, ◌++◌}
+use mathlib.Core.List.{List, [], ◌∷◌}
 use mathlib.Core.Logic.{⊎_elim}
 use mathlib.Core.Path.{◌≡◌, refl, sym, ap, ◌∙◌}
 use borrow.Author.Tests.{leb-true}
@@ -16,7 +16,7 @@ use Rattle.signals.specs.Payloads.{zeros}
 use Rattle.signals.proofs.Bools.{either, both}
 use Rattle.fifo.specs.declared.Fifo.{Fifo}
 use Rattle.fifo.specs.declared.Pointers.{Pointers}
-use Rattle.fifo.specs.Queue.{Value, ill, well, plain, empty}
+use Rattle.fifo.specs.Queue.{ill, well, plain, empty}
 use Rattle.fifo.specs.Ring.{ring, wrapped, fifo_with, queue_of, in_range, trusted}
 use Rattle.fifo.specs.Memory.{slots_in, fifo_in, has_slots, trusted_in}
 use Rattle.fifo.proofs.Places.{wrapped_below}
@@ -82,6 +82,12 @@ pub trusted_unformed : (p : Pointers) (words strbs : List ℕ) → (in_range (fi
     → trusted_in p words strbs ≡ ill
 unfolding trusted_in
 trusted_unformed p words strbs e = unformed_ill (fifo_in p words strbs) (has_slots p.place.depth words strbs) e
+
+-- the two tests, as the code makes them
+pub formed_tests : (p : Pointers) (words strbs : List ℕ) (numbers room : Bool) → ((slots : List Payload) → numbers ≡ in_range (fifo_with p slots))
+    → room ≡ has_slots p.place.depth words strbs
+    → (numbers && room) ≡ (in_range (fifo_in p words strbs) && has_slots p.place.depth words strbs)
+formed_tests p words strbs numbers room e k = rw (e (slots_in words strbs), k)
 
 -- a plain place of depth 0 is no FIFO's
 pub depth_0_unformed : (count oldest : ℕ) (slots : List Payload) → in_range (record { place = plain 0; count = count; oldest = oldest; slots = slots }) ≡ false

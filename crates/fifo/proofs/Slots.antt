@@ -5,7 +5,7 @@ use native.Mathlib.Nat.{add-zero, mod-eq_of_lt}
 use native.Mathlib.Omega.{arith}
 use mathlib.Core.Bool.{false}
 use mathlib.Core.List.{List, [], ◌∷◌, ◌++◌}
-use mathlib.Core.Path.{◌≡◌, refl, ap, ◌∙◌}
+use mathlib.Core.Path.{◌≡◌, refl, sym, ap, ◌∙◌}
 use borrow.Author.Tests.{le-leb, lt-leb}
 use lib.ListN.{length, get_or, set}
 use lib.Seq.{get_or-set_same, get_or-set_other}
@@ -56,4 +56,5 @@ store_joins_end slots depth at zero p fits h k =
 store_joins_end slots depth at (suc n) p fits h k =
     let q = store_joins_end slots depth (wrapped depth (at + 1)) n p fits (wrapped_below depth at 1 (omega arith)) (omega arith) in
     rw (get_or-set_other slots (wrapped depth (at + suc n)) at p zeros (wrapped_other depth at n h k))
-    (ap {B = List Payload} (λ l. get_or slots at zeros ∷ l) (rw (wrapped_next depth at n h (omega arith)) at q))
+    (ap {B = List Payload} (λ l. get_or slots at zeros ∷ l)
+    (ap (λ (slot : ℕ). ring (set slots slot p) depth (wrapped depth (at + 1)) (suc n)) (sym (wrapped_next depth at n h (omega arith))) ∙ q))

@@ -3,6 +3,8 @@
 // Writes out the FIFO of "The stage and the line" of document 01, with requests T-06 and T-08. The value of a FIFO is its place, which is
 // its depth and its kind, and its payloads, the oldest first (`specs/Queue.antt`); the ring that holds them (`specs/Ring.antt`) is nobody
 // else's affair. The same FIFO may lie in lent memory (`memory.rt`).
+#![tactic(auto)]
+
 mod capacity;
 mod memory;
 mod ring;
@@ -21,7 +23,7 @@ pub const MAX_DEPTH: usize = 64;
 
 // A place in a chain: the depth of the FIFO there, and whether it is early-stall or plain.
 #[repr(C)]
-#[derive(Drop)]
+#[derive(Clone, Copy)]
 pub struct Place {
     pub depth: usize,
     pub early_stall: bool,
@@ -35,7 +37,7 @@ pub const SMALLEST: Place = Place {
 
 // A FIFO, document 01's stage. `count` payloads lie in the slots from `oldest` on, around the end at the depth of its place.
 #[repr(C)]
-#[derive(Drop)]
+#[derive(Clone, Copy)]
 pub struct Fifo {
     pub place: Place,
     pub count: usize,
@@ -44,21 +46,21 @@ pub struct Fifo {
 }
 
 // A FIFO but for its slots, which lie in lent memory.
-#[derive(Drop)]
+#[derive(Clone, Copy)]
 pub struct Pointers {
     pub place: Place,
     pub count: usize,
     pub oldest: usize,
 }
 
-#[derive(Drop)]
+#[derive(Clone, Copy)]
 pub struct NewFifo {
     pub outcome: Outcome,
     pub fifo: Fifo,
 }
 
 // What a step shows, and the FIFO after it.
-#[derive(Drop)]
+#[derive(Clone, Copy)]
 pub struct Stepped {
     pub outcome: Outcome,
     pub ready: bool,
@@ -68,7 +70,7 @@ pub struct Stepped {
 }
 
 // What a step in lent memory shows, and the pointers after it.
-#[derive(Drop)]
+#[derive(Clone, Copy)]
 pub struct SteppedIn {
     pub outcome: Outcome,
     pub ready: bool,

@@ -1,10 +1,6 @@
 -- `Fifo::emptied` meets its contract, by `count_0_empty`. Assumes nothing.
 use Rattle.fifo.proofs.Form.{count_0_empty, form_of}
-use Rattle.fifo.proofs.Fifo.emptied.Statement.{statement}
-use Rattle.fifo.proofs.Fifo.emptied.Tie as tie
+use Rattle.fifo.proofs.Fifo.emptied.Goals as goal
 
-returns : tie.Need-returns
+pub returns : goal.returns
 returns c = let form = form_of c.args.self c.requires in count_0_empty c.args.self.place c.args.self.oldest c.args.self.slots form.place form.oldest
-
-pub emptied-spec : {M : Type 1} → statement M
-emptied-spec = tie.close (tie.spec returns)

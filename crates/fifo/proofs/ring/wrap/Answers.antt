@@ -4,23 +4,19 @@ use mathlib.Core.Bool.{true, false}
 use mathlib.Core.Path.{◌≡◌}
 use borrow.Author.Tests.{leb-true, leb-false, le-leb, lt-leb}
 use Rattle.fifo.specs.Ring.{is_inside, wrapped}
-use Rattle.fifo.proofs.ring.wrap.Statement.{statement}
-use Rattle.fifo.proofs.ring.wrap.Tie as tie
+use Rattle.fifo.proofs.ring.wrap.Goals as goal
 
-sub-result : tie.Need-overflow-sub-result
-sub-result c = omega (arith, leb-false)
+pub overflow_sub-result : goal.overflow_sub-result
+overflow_sub-result c = omega (arith, leb-false)
 
-returns : tie.Need-returns
+pub returns-then-inside : goal.returns-then-inside
 unfolding wrapped
-returns c =
-    let a = c.before.args in
+returns-then-inside c =
+    let a = c.args in
     let inside : is_inside a.depth a.place ≡ true = omega (arith, leb-true, le-leb) in rw inside
 
-returns-2 : tie.Need-returns-2
+pub returns-else-inside : goal.returns-else-inside
 unfolding wrapped
-returns-2 c =
-    let a = c.before.args in
+returns-else-inside c =
+    let a = c.args in
     let outside : is_inside a.depth a.place ≡ false = omega (arith, leb-false, lt-leb) in rw outside
-
-pub wrap_spec : {M : Type 1} → statement M
-wrap_spec = tie.close (tie.spec sub-result returns returns-2)
