@@ -2,6 +2,8 @@
 //
 // Writes out the form of "Bench text" of document 01. `specs/Form.antt` has the form, `specs/Parsing.antt` what `parse` promises, and
 // `specs/Places.antt` what an answer of the other functions means for the form.
+#![tactic(auto)]
+
 ghost use Rattle.std.specs.Prelude.{◌≡◌, ◌≤◌, ◌+◌, ◌*◌, ◌^◌, length, drop};
 ghost use Rattle.trace_text.specs.Digits.{digit_of};
 ghost use Rattle.trace_text.specs.Form as form;
@@ -17,49 +19,49 @@ pub const MAX_ANNOUNCED: usize = 4096;
 const MORE_DIGITS: usize = 4;
 
 // Where the text goes on after given bytes, if they are there.
-#[derive(Drop)]
+#[derive(Clone, Copy)]
 enum Place {
     After(usize),
     Nowhere,
 }
 
 // The switch, and where the text goes on.
-#[derive(Drop)]
+#[derive(Clone, Copy)]
 enum Switched {
     Set { on: bool, next: usize },
     Bad,
 }
 
 // The digit that a byte writes.
-#[derive(Drop)]
+#[derive(Clone, Copy)]
 enum Digit {
     Is(u8),
     Not,
 }
 
 // A number, and where the text goes on.
-#[derive(Drop)]
+#[derive(Clone, Copy)]
 enum Number {
     Is { value: u32, next: usize },
     Bad,
 }
 
 // A cycle line's entry, and where the text goes on.
-#[derive(Drop)]
+#[derive(Clone, Copy)]
 enum Line {
     Cycle { control: u8, word: u32, next: usize },
     Bad,
 }
 
 // What the three header lines say, and where the text goes on.
-#[derive(Drop)]
+#[derive(Clone, Copy)]
 enum Headed {
     Good { seq: bool, cycles: u32, next: usize },
     Bad,
 }
 
 // A trace of so many cycles with its switch, or what is wrong with the text.
-#[derive(Drop)]
+#[derive(Clone, Copy)]
 pub enum Parsed {
     Trace { seq: bool, cycles: usize },
     Refused(Refusal),
