@@ -1,7 +1,8 @@
 // The places of a chain: how many there may be, and how they are read off a lent list.
 //
-// Writes out the number of stages of "The stage and the line" of document 01, with requests T-06 and T-08. A slice of structs is not
-// walked by the prover itself: `proofs/Places/read` follows the code of `Places::read` statement by statement.
+// Writes out the number of stages of "The stage and the line" of document 01, with requests T-06 and T-08.
+#![tactic(auto)]
+
 ghost use Rattle.std.specs.Prelude.{◌≡◌, ◌<◌};
 ghost use Rattle.places.specs.Listing.{max_fifos, legal_count, Lists};
 ghost use Rattle.places.specs.Blank.{blank, placed};
@@ -12,7 +13,7 @@ use fifo::{Place, SMALLEST};
 pub const MAX_FIFOS: usize = 16;
 
 // The places of a chain, the mouth's first: the first `count` of them.
-#[derive(Drop)]
+#[derive(Clone, Copy)]
 pub struct Places {
     pub count: usize,
     pub listed: [Place; MAX_FIFOS],
