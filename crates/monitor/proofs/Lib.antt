@@ -8,4 +8,3 @@ pub mod Keeps
 pub mod OneCycle
 pub mod Reached
 pub mod Cutting
-pub mod Lent

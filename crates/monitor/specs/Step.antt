@@ -1,5 +1,5 @@
 -- What the checker of whole traces keeps, and what a record keeps of it. The contracts of private functions cite this. Assumes nothing.
-use Rattle.std.specs.Prelude.{ℕ, ◌+◌, ◌*◌, Bool, true, false, cond}
+use Rattle.std.specs.Prelude.{ℕ, ◌+◌, ◌*◌, Bool, false, cond}
 use Rattle.std.proofs.Math.Option.{Option, none, some}
 use Rattle.signals.specs.Numbers.{rule_number}
 use Rattle.signals.specs.Payloads.{zeros}

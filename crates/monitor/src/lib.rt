@@ -1,6 +1,8 @@
 // The stream checker fed in bursts: a small record, lent and updated, that says what the checker says of the whole trace.
 //
 // Writes out requests T-05 and T-09 over "Stream rules" of document 01. A burst is judged by the loop of `stream_checker`.
+#![tactic(auto)]
+
 mod burst; // burst.rt: the record after a burst
 mod form; // form.rt: the tests of refusal 6
 
@@ -18,7 +20,7 @@ pub const MAX_SEEN: u32 = 4294967295;
 
 // A record of a stream that is checked in bursts. Callers lend it and read it; only these calls should write it.
 #[repr(C)]
-#[derive(Drop)]
+#[derive(Clone, Copy)]
 pub struct Monitor {
     // Whether rule seq is judged.
     pub seq: bool,
@@ -40,7 +42,7 @@ pub struct Monitor {
 }
 
 // The record after a burst, and how the call ended.
-#[derive(Drop)]
+#[derive(Clone, Copy)]
 pub struct Fed {
     pub monitor: Monitor,
     pub outcome: Outcome,
