@@ -177,8 +177,8 @@ source_refusal none n words strobes = refl
 source_refusal (some number) n words strobes = refl
 
 sink_refusal : (r : Option ℕ) (m : ℕ) (packets : List ℕ) → (ofSink.answer_by r m packets).refusal ≡ r
-sink_refusal none m packets = refl
-sink_refusal (some number) m packets = refl
+sink_refusal none _ _ = refl
+sink_refusal (some number) _ _ = refl
 
 pub strobes_name_packets_lem : StrobesNamePackets
 strobes_name_packets_lem m packets k few h =

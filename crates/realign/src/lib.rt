@@ -1,6 +1,8 @@
 // Source and sink realign for 32-bit streams: packets that start at any byte address, from words with strobes and back.
 //
 // Writes out request T-10, over the strobe plan of `strbgen`.
+#![tactic(auto)]
+
 mod shift; // shift.rt: words moved up by bytes
 
 ghost use Rattle.std.specs.Prelude.{◌≡◌, ◌++◌, ◌%◌, ◌<◌, ◌≤◌, length, drop};
@@ -17,7 +19,7 @@ use signals::{Outcome, Refusal};
 use strbgen::MAX_PACKETS;
 
 // How a call ended, and how many packets or words it made.
-#[derive(Drop)]
+#[derive(Clone, Copy)]
 pub struct Realigned {
     pub outcome: Outcome,
     pub count: usize,

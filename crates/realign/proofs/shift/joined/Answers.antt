@@ -4,10 +4,8 @@ use Prim.Native.Nat.{ℕ, ◌+◌, ◌*◌, ◌-◌, ◌%◌, ◌^◌, ◌<◌}
 use native.Mathlib.Omega.{arith}
 use native.Mathlib.Nat.{add_comm, add-zero, mod-lt}
 use mathlib.Core.Path.{◌≡◌, sym, ap, ap₂, ◌∙◌}
-use borrow.Author.Rules.{rules}
 use lib.Pow.{pow_pos, high, low, mod-pow-add}
-use Rattle.realign.proofs.shift.joined.Statement.{statement}
-use Rattle.realign.proofs.shift.joined.Tie as tie
+use Rattle.realign.proofs.shift.joined.Goals as goal
 
 module _ (word bits : ℕ) (less : bits < 32) where
   -- modulo 2^32 a word that is moved up behind others keeps the bits for which there is room
@@ -27,18 +25,12 @@ module _ (word bits : ℕ) (less : bits < 32) where
       ∙ sym (kept left small)
       ∙ ap (λ n. n % 2 ^ 32) (add_comm (word * 2 ^ bits) left)
 
-shl-result : tie.Need-overflow-shl-result
-shl-result c = search rules
-
-add-result : tie.Need-overflow-add-result
-add-result c =
+pub overflow_add-result : goal.overflow_add-result
+overflow_add-result c =
     let a = c.args in
     let same = no-carry a.word a.bits c.requires.0 a.left c.requires.1 in
     let fits : (a.left + a.word * 2 ^ a.bits) % 2 ^ 32 < 2 ^ 32 = mod-lt (a.left + a.word * 2 ^ a.bits) (pow_pos 32) in
     omega (arith, same, fits)
 
-returns : tie.Need-returns
+pub returns : goal.returns
 returns c = no-carry c.args.word c.args.bits c.requires.0 c.args.left c.requires.1
-
-pub joined-spec : {M : Type 1} → statement M
-joined-spec = tie.close (tie.spec shl-result add-result returns)

@@ -2,10 +2,8 @@
 use Prim.Native.Nat.{ℕ, ◌+◌, ◌-◌, ◌/◌, ◌^◌, ◌<◌}
 use native.Mathlib.Omega.{arith}
 use mathlib.Core.Path.{◌≡◌, ap, ◌∙◌}
-use borrow.Author.Rules.{rules}
 use lib.Pow.{shr_lt, shr-shr}
-use Rattle.realign.proofs.shift.left_over.Statement.{statement}
-use Rattle.realign.proofs.shift.left_over.Tie as tie
+use Rattle.realign.proofs.shift.left_over.Goals as goal
 
 module _ (word bits : ℕ) (less : bits < 32) where
   one_shift : word / 2 / 2 ^ (31 - bits) ≡ word / 2 ^ (32 - bits)
@@ -21,15 +19,6 @@ module _ (word bits : ℕ) (less : bits < 32) where
       split : bits + (32 - bits) ≡ 32
       split = omega arith
 
-sub-result : tie.Need-overflow-sub-result
-sub-result c = search rules
-
-shr-result : tie.Need-overflow-shr-result
-shr-result c = search rules
-
-returns : tie.Need-returns
+pub returns : goal.returns
 returns c =
     (one_shift c.args.word c.args.bits c.requires, below-bits c.args.word c.args.bits c.requires (omega arith))
-
-pub left-over-spec : {M : Type 1} → statement M
-left-over-spec = tie.close (tie.spec sub-result shr-result returns)
