@@ -2,7 +2,6 @@
 -- engines are equal, and a refused call answers by no engine. Assumes nothing.
 use Prim.Native.Nat.{ℕ}
 use mathlib.Core.Bool.{false}
-use mathlib.Core.List.{List}
 use mathlib.Core.Option.{Option, none, some}
 use mathlib.Core.Path.{◌≡◌, refl, sym, ap, ap₂, fun_ext}
 use lib.ListN.{length}

@@ -1,6 +1,8 @@
 // The address of any iteration of the generator straight from its settings, and the addresses that two generators share.
 //
 // Writes out request T-14, over the settings of `addressgen`.
+#![tactic(auto)]
+
 mod listing; // listing.rt: the iterations whose address is among others
 mod number; // number.rt: the address by quotients and remainders
 
@@ -20,14 +22,14 @@ use signals::{Outcome, Refusal};
 pub const MAX_ITERATIONS: usize = 4096;
 
 // How the call ended, and the address.
-#[derive(Drop)]
+#[derive(Clone, Copy)]
 pub struct Addressed {
     pub outcome: Outcome,
     pub address: u32,
 }
 
 // How the call ended, and how many iterations were listed.
-#[derive(Drop)]
+#[derive(Clone, Copy)]
 pub struct Listed {
     pub outcome: Outcome,
     pub count: usize,
