@@ -1,6 +1,8 @@
 // Merge and split: two or four 32-bit streams made into one wide stream, and a wide stream taken apart again.
 //
 // Writes out request T-01. Both are functions of one cycle and keep no state.
+#![tactic(auto)]
+
 mod branches; // branches.rt: what a split reads, and what it offers
 mod inputs; // inputs.rt: what a merge reads of its inputs
 mod strobes; // strobes.rt: where the strobes of a lane lie
@@ -21,7 +23,7 @@ pub const MAX_LANES: usize = 4;
 
 // What a stream's source offers in one cycle.
 #[repr(C)]
-#[derive(Drop)]
+#[derive(Clone, Copy)]
 pub struct Offer {
     pub valid: bool,
     pub payload: Payload,
@@ -29,7 +31,7 @@ pub struct Offer {
 
 // What a wide stream carries in one cycle: a word for each lane, lane 0 first, and four strobe bits for each, those of lane 0 lowest.
 #[repr(C)]
-#[derive(Drop)]
+#[derive(Clone, Copy)]
 pub struct Wide {
     pub data: [u32; MAX_LANES],
     pub strb: u16,
@@ -47,7 +49,7 @@ const NOTHING: Wide = Wide {
 };
 
 // What a merge shows its output, and the ready that it gives each input.
-#[derive(Drop)]
+#[derive(Clone, Copy)]
 pub struct MergeCycle {
     pub outcome: Outcome,
     pub valid: bool,
@@ -56,7 +58,7 @@ pub struct MergeCycle {
 }
 
 // The ready that a split gives its source, and what it offers each branch.
-#[derive(Drop)]
+#[derive(Clone, Copy)]
 pub struct SplitCycle {
     pub outcome: Outcome,
     pub ready: bool,
