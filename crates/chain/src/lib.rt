@@ -3,6 +3,8 @@
 // Writes out the line of "The stage and the line" of document 01, with requests T-06, T-08, T-09 and T-12. The crate sees of a FIFO its
 // value and its promise (`Queue` and `Promises` of `fifo`), and nothing of how it is kept. Demand 3, and what the delivery time means,
 // stand in the crate `demand3`.
+#![tactic(auto)]
+
 mod cycle;
 mod empty;
 mod form;
@@ -23,20 +25,20 @@ use signals::{MAX_STRB, Outcome, Payload, Refusal};
 
 // A chain of FIFOs, document 01's line: the first `count` of them, the mouth's first.
 #[repr(C)]
-#[derive(Drop)]
+#[derive(Clone, Copy)]
 pub struct Chain {
     pub count: usize,
     pub fifos: [Fifo; MAX_FIFOS],
 }
 
-#[derive(Drop)]
+#[derive(Clone, Copy)]
 pub struct NewChain {
     pub outcome: Outcome,
     pub chain: Chain,
 }
 
 // What a step shows, and the chain after it.
-#[derive(Drop)]
+#[derive(Clone, Copy)]
 pub struct Stepped {
     pub outcome: Outcome,
     pub ready: bool,
@@ -46,14 +48,14 @@ pub struct Stepped {
 }
 
 // How a run ended, and the chain after it.
-#[derive(Drop)]
+#[derive(Clone, Copy)]
 pub struct Ran {
     pub outcome: Outcome,
     pub next: Chain,
 }
 
 // After how many cycles a payload is delivered; 0 means this very cycle.
-#[derive(Drop)]
+#[derive(Clone, Copy)]
 pub struct DeliveryTime {
     pub outcome: Outcome,
     pub cycles: usize,
