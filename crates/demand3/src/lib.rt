@@ -2,3 +2,4 @@
 //
 // Demand 3 stands in `specs/Demand3.antt`, and what the delivery time means in `specs/ExactTime.antt`; both are proved from the
 // definitions and promises of `chain`. There is no code.
+#![tactic(auto)]
