@@ -2,6 +2,8 @@
 //
 // Writes out the report of "Bench text" of document 01, with request T-09, over the trace that `trace_text` reads. `specs/Report.antt`
 // is the form of a report.
+#![tactic(auto)]
+
 mod write;
 
 ghost use Rattle.std.specs.Prelude.{◌≡◌};
@@ -33,7 +35,7 @@ pub fn max_report() -> usize
 }
 
 // Whether the report was written, and how many bytes it has.
-#[derive(Drop)]
+#[derive(Clone, Copy)]
 pub struct Reported {
     pub outcome: Outcome,
     pub count: usize,
