@@ -1,7 +1,7 @@
 -- Document 01, "Bench examples": P1 to P12, P4 and P5 with null bytes between as request T-04 asks, C1 to C6 with clear cycles as
 -- request T-09 asks, and S1 to S8 with stores as request T-07 asks, as one list of questions with the answers that the papers give
--- to them, and one claim: these are the definitions' answers. It is checked by computation. Assumes nothing.
-use Rattle.std.specs.Prelude.{ℕ, Bool, true, false, List, [], ◌∷◌, map, ◌≡◌, refl, length}
+-- to them. `proofs/Bench.antt` has the claim: these are the definitions' answers. Assumes nothing.
+use Rattle.std.specs.Prelude.{ℕ, Bool, true, false, List, [], ◌∷◌, map, length}
 use Rattle.std.proofs.Math.Option.{Option, none, some}
 use Rattle.signals.specs.Judging.{clean, broken}
 use Rattle.signals.specs.Written.{RuleName, number, seq, Judgement}
@@ -156,8 +156,3 @@ examples =
     ∷ generator (transfer true 1 2 0 3 4 4 0) 8 gives yielded 3 (0x1000 ∷ 0x1004 ∷ 0x1004 ∷ [])
     ∷ generator (transfer true 0 0 0 3 0x80000000 0 0) 8 gives yielded 3 (0x1000 ∷ 0x80001000 ∷ 0x1000 ∷ [])
     ∷ []
-
--- The claim: to every question the definitions give the answer that the papers give.
-pub examples_hold : map (λ e. answer e.question) examples ≡ map (λ e. e.expected) examples
-unfolding check_stream check_mem
-examples_hold = refl

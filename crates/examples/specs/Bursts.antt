@@ -1,9 +1,7 @@
 -- Requests T-05 and T-09: the stream examples of document 01, and one with a clear cycle, cut into bursts, as one list of cuttings
--- with the records that they leave, and one claim: these are the definitions' records. It is checked by computation. Assumes nothing.
-use Rattle.std.specs.Prelude.{ℕ, Bool, true, false, List, [], ◌∷◌, map, ◌≡◌, refl}
-use Rattle.monitor.specs.Bursts.{fed_by}
-use Rattle.monitor.specs.Record.{fresh}
-use Rattle.monitor.specs.Theorems.{Burst, after}
+-- with the records that they leave. `proofs/Bursts.antt` has the claim: these are the definitions' records. Assumes nothing.
+use Rattle.std.specs.Prelude.{ℕ, Bool, true, false, List, [], ◌∷◌}
+use Rattle.monitor.specs.Theorems.{Burst}
 use Rattle.monitor.specs.declared.Monitor.{Monitor}
 use Rattle.examples.specs.Bench.{firsts, seconds}
 use Rattle.examples.specs.Parts.{seen, clean, broken, stall, no_stall, next_due, none_due, with}
@@ -63,8 +61,3 @@ examples =
     -- Request T-09: a burst that ends in a stall, and one that begins with a clear, after which valid is withdrawn: clean, clears 1
     ∷ (false, burst ((0xf1, 0x11) ∷ []) ∷ burst ((0x04, 0) ∷ (0xf0, 0x12) ∷ []) ∷ []) leave nothing_kept false 3 0 1
     ∷ []
-
--- The claim: every cutting leaves the record beside it.
-pub examples_hold : map (λ e. after (fresh e.seq_on) e.bursts) examples ≡ map (λ e. e.expected) examples
-unfolding fed_by
-examples_hold = refl

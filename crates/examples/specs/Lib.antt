@@ -1,4 +1,4 @@
--- The worked examples that are shown about the definitions.
+-- The worked examples, as lists; `proofs/` shows of each that it holds of the definitions.
 pub mod Asked
 pub mod Bench
 pub mod Numbered

@@ -1,6 +1,6 @@
 -- Request T-14: addresses by their number and the addresses that two generators share, N1 to N8 and O1 to O6, as one list of questions with
--- their answers, and one claim: these are the definitions' answers. It is checked by computation. Assumes nothing.
-use Rattle.std.specs.Prelude.{ℕ, true, false, List, [], ◌∷◌, map, ◌≡◌, refl}
+-- their answers. `proofs/Numbered.antt` has the claim: these are the definitions' answers. Assumes nothing.
+use Rattle.std.specs.Prelude.{ℕ, true, false, List, [], ◌∷◌}
 use Rattle.std.proofs.Math.Option.{Option, none, some}
 use Rattle.signals.specs.Tables.{first_applying}
 use Rattle.addressgen.specs.declared.Settings.{Settings}
@@ -99,7 +99,3 @@ examples =
     ∷ overlap (transfer true 3 3 2 8 0 0x20 0x100) (p9_settings 4) 0 gives refused 11
     ∷ overlap (p9_settings 3) (p9_settings 4) 0 gives refused 10
     ∷ []
-
--- The claim: to every question the definitions give this answer.
-pub examples_hold : map (λ e. answer e.question) examples ≡ map (λ e. e.expected) examples
-examples_hold = refl

@@ -1,8 +1,7 @@
 -- Requests T-05 and T-09: for each test of refusal 6 a record that only this test refuses, beside the same record mended there, as
--- one list in the order of docs/MONITOR.md, and for the tests that count clears one more; and one claim: each is refused, and each
--- mended one accepted. Checked by computation. Assumes nothing.
-use Rattle.std.specs.Prelude.{ℕ, Bool, true, false, List, [], ◌∷◌, map, ◌≡◌, refl}
-use Rattle.monitor.specs.Record.{legal}
+-- one list in the order of docs/MONITOR.md, and for the tests that count clears one more. `proofs/Records.antt` has the claim: each is
+-- refused, and each mended one accepted. Assumes nothing.
+use Rattle.std.specs.Prelude.{true, false, List, [], ◌∷◌}
 use Rattle.monitor.specs.declared.Monitor.{Monitor}
 use Rattle.examples.specs.Parts.{seen, verdict, clean, broken, stall, no_stall, next_due, none_due, with}
 
@@ -64,7 +63,3 @@ examples =
     -- 19: by rule seq, as many of both as cycles before it at most
     ∷ with (seen true 2 1 0) (broken 100 1) (no_stall 0 0) (none_due 0) not with (seen true 2 1 1) (broken 100 1) (no_stall 0 0) (none_due 0)
     ∷ []
-
--- The claim: the tests refuse each, and accept it mended.
-pub examples_hold : (map (λ e. legal e.refused) examples ≡ map (λ e. false) examples) × (map (λ e. legal e.mended) examples ≡ map (λ e. true) examples)
-examples_hold = (refl, refl)
