@@ -11,7 +11,7 @@ use addressgen::Settings;
 
 // The address of one iteration.
 #[repr(C)]
-#[derive(Drop)]
+#[derive(Clone, Copy)]
 pub struct AddressAt {
     pub refusal: u8,
     pub address: u32,

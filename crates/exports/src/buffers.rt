@@ -13,7 +13,7 @@ use signals::Refusal;
 
 // How many entries were written.
 #[repr(C)]
-#[derive(Drop)]
+#[derive(Clone, Copy)]
 pub struct Filled {
     pub refusal: u8,
     pub count: usize,
@@ -21,7 +21,7 @@ pub struct Filled {
 
 // A run's iterations, the state after them, and whether that is the end.
 #[repr(C)]
-#[derive(Drop)]
+#[derive(Clone, Copy)]
 pub struct AddressRun {
     pub refusal: u8,
     pub count: usize,

@@ -12,7 +12,7 @@ use signals::{ALIGN, BROKEN, CLEAN, NONE};
 
 // A verdict on a stream's trace, with the handshakes and the clears. Rule and cycle are 0 unless it is broken.
 #[repr(C)]
-#[derive(Drop)]
+#[derive(Clone, Copy)]
 pub struct StreamVerdict {
     pub refusal: u8,
     pub verdict: u8,
@@ -24,7 +24,7 @@ pub struct StreamVerdict {
 
 // A verdict on a memory trace, and whether a read is still open.
 #[repr(C)]
-#[derive(Drop)]
+#[derive(Clone, Copy)]
 pub struct MemVerdict {
     pub refusal: u8,
     pub verdict: u8,

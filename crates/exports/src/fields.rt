@@ -8,7 +8,7 @@ use signals::{memory, stream};
 
 // `reserved` is bit 3 alone.
 #[repr(C)]
-#[derive(Drop)]
+#[derive(Clone, Copy)]
 pub struct StreamFields {
     pub valid: bool,
     pub ready: bool,
@@ -18,7 +18,7 @@ pub struct StreamFields {
 }
 
 #[repr(C)]
-#[derive(Drop)]
+#[derive(Clone, Copy)]
 pub struct MemFields {
     pub req: bool,
     pub gnt: bool,

@@ -15,7 +15,7 @@ use fifo::{Fifo, Place};
 use signals::Payload;
 
 #[repr(C)]
-#[derive(Drop)]
+#[derive(Clone, Copy)]
 pub struct FifoNew {
     pub refusal: u8,
     pub fifo: Fifo,
@@ -23,7 +23,7 @@ pub struct FifoNew {
 
 // What a step shows, and the FIFO after it.
 #[repr(C)]
-#[derive(Drop)]
+#[derive(Clone, Copy)]
 pub struct FifoStep {
     pub refusal: u8,
     pub ready: bool,
@@ -33,7 +33,7 @@ pub struct FifoStep {
 }
 
 #[repr(C)]
-#[derive(Drop)]
+#[derive(Clone, Copy)]
 pub struct ChainNew {
     pub refusal: u8,
     pub chain: Chain,
@@ -41,7 +41,7 @@ pub struct ChainNew {
 
 // What a step shows, and the chain after it.
 #[repr(C)]
-#[derive(Drop)]
+#[derive(Clone, Copy)]
 pub struct ChainStep {
     pub refusal: u8,
     pub ready: bool,
@@ -52,7 +52,7 @@ pub struct ChainStep {
 
 // The chain after a run.
 #[repr(C)]
-#[derive(Drop)]
+#[derive(Clone, Copy)]
 pub struct ChainRun {
     pub refusal: u8,
     pub next: Chain,
@@ -60,7 +60,7 @@ pub struct ChainRun {
 
 // After how many cycles a payload is delivered.
 #[repr(C)]
-#[derive(Drop)]
+#[derive(Clone, Copy)]
 pub struct ChainDeliveryTime {
     pub refusal: u8,
     pub cycles: usize,

@@ -2,6 +2,8 @@
 //
 // An exported function takes and returns no enum, so an answer has document 01's numbers in its place. Where a call can be refused the
 // refusal's number is the answer's first field, 0 for a call that is accepted. `specs/` says how.
+#![tactic(auto)]
+
 mod addresses; // addresses.rt: the address of an iteration, and those that two generators share
 mod buffers; // buffers.rt: mux, address generator, strobe plan and bench text
 mod checkers; // checkers.rt: the verdicts on traces

@@ -9,7 +9,7 @@ ghost use Rattle.exports.specs.Monitors.{fed_numbers};
 use monitor::Monitor;
 
 // The record after a burst, and its refusal's number.
-#[derive(Drop)]
+#[derive(Clone, Copy)]
 pub struct MonitorFed {
     pub record: Monitor,
     pub refusal: u8,

@@ -8,21 +8,21 @@ use lanes::{MAX_LANES, Offer, Wide};
 
 // What each input offers.
 #[repr(C)]
-#[derive(Drop)]
+#[derive(Clone, Copy)]
 pub struct Inputs {
     pub each: [Offer; MAX_LANES],
 }
 
 // Which branches are ready.
 #[repr(C)]
-#[derive(Drop)]
+#[derive(Clone, Copy)]
 pub struct Readies {
     pub each: [bool; MAX_LANES],
 }
 
 // What a merge shows its output, and the ready that it gives each input.
 #[repr(C)]
-#[derive(Drop)]
+#[derive(Clone, Copy)]
 pub struct MergeStep {
     pub refusal: u8,
     pub valid: bool,
@@ -32,7 +32,7 @@ pub struct MergeStep {
 
 // The ready that a split gives its source, and what it offers each branch.
 #[repr(C)]
-#[derive(Drop)]
+#[derive(Clone, Copy)]
 pub struct SplitStep {
     pub refusal: u8,
     pub ready: bool,
