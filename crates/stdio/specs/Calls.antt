@@ -1,4 +1,4 @@
--- What one call of C moves. No public promise cites it. Assumes nothing.
+-- What one call of the system moves. No public promise cites it. Assumes nothing.
 use Rattle.std.specs.Prelude.{ℕ, ◌≤◌}
 use Rattle.stdio.specs.declared.Call.{Call}
 use Rattle.stdio.specs.declared.Call.TheVariants.{Moved, Ended, Failed}
