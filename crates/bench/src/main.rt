@@ -1,16 +1,18 @@
 // The bench program: a bench text on standard input, its report on standard output. Where either fails, one line on standard error.
 //
 // It reads as much as decides any answer. Every decision is in `bench_text`.
+#![tactic(auto)]
+
 use bench_text::{MAX_REPORT, MAX_TEXT, report};
 use stdio::{Input, read_input, write_report};
 
-fn main() {
+fn main(rt: HostRuntime) {
     let mut text = [0u8; MAX_TEXT];
-    let Input::Read(size) = read_input(&mut text, b"bench: standard input") else {
+    let Input::Read(size) = read_input(&rt, &mut text, b"bench: standard input") else {
         return;
     };
     let mut out = [0u8; MAX_REPORT];
     let made = report(&text[..size], &mut out);
     let count = made.count;
-    write_report(&out[..count], b"bench: standard output");
+    write_report(&rt, &out[..count], b"bench: standard output");
 }

@@ -1,8 +1,11 @@
 // Runs the FIFO: new ones at legal and illegal places, then a plain one of depth 4 that is filled, drained, wrapped, cleared and
 // refused, and an early-stall one of depth 4 that is filled and drained. Each call is printed on a line: what it was given, and what
 // it answered.
+#![tactic(auto)]
+
 use fifo::{Fifo, Place};
 use signals::{Outcome, Payload};
+use std::io;
 
 // The paper's number of an outcome.
 fn number(outcome: Outcome) -> u8 {
@@ -12,30 +15,29 @@ fn number(outcome: Outcome) -> u8 {
     }
 }
 
-fn field(name: &[u8], n: u64) {
-    io::write_all(1, name);
-    io::print_decimal(1, n);
+fn field(rt: &impl Print, name: &str, n: u64) -> io::Result<()> {
+    print!(rt; "{name}{n}")
 }
 
-fn flag(name: &[u8], b: bool) {
-    field(name, if b { 1 } else { 0 });
+fn flag(rt: &impl Print, name: &str, b: bool) -> io::Result<()> {
+    field(rt, name, u64::from(b))
 }
 
-fn payload_fields(p: Payload) {
-    field(b" data=", p.data as u64);
-    field(b" strb=", p.strb as u64);
+fn payload_fields(rt: &impl Print, p: Payload) -> io::Result<()> {
+    field(rt, " data=", u64::from(p.data))?;
+    field(rt, " strb=", u64::from(p.strb))
 }
 
 // The kind is printed only where it is early-stall.
-fn place_fields(place: Place) {
+fn place_fields(rt: &impl Print, place: Place) -> io::Result<()> {
     if place.early_stall {
-        io::write_all(1, b" early-stall");
+        print!(rt; " early-stall")?;
     }
-    field(b" depth=", place.depth as u64);
+    field(rt, " depth=", place.depth as u64)
 }
 
 // A new FIFO.
-fn new(early_stall: bool, depth: usize) -> Fifo {
+fn new(rt: &impl Print, early_stall: bool, depth: usize) -> io::Result<Fifo> {
     let place = Place {
         depth: depth,
         early_stall: early_stall,
@@ -43,38 +45,44 @@ fn new(early_stall: bool, depth: usize) -> Fifo {
     let r = Fifo::new(place);
     let outcome = r.outcome;
     let made = r.fifo;
-    io::write_all(1, b"new");
-    place_fields(place);
-    field(b" | refusal=", number(outcome) as u64);
-    let given = made.place;
-    place_fields(given);
-    field(b" held=", made.count as u64);
-    io::write_all(1, b"\n");
-    made
+    print!(rt; "new")?;
+    place_fields(rt, place)?;
+    field(rt, " | refusal=", u64::from(number(outcome)))?;
+    place_fields(rt, made.place)?;
+    field(rt, " held=", made.count as u64)?;
+    println!(rt; "")?;
+    Ok(made)
 }
 
 // One cycle.
-fn step(f: Fifo, valid: bool, payload: Payload, sink: bool, clear: bool) -> Fifo {
+fn step(
+    rt: &impl Print,
+    f: Fifo,
+    valid: bool,
+    payload: Payload,
+    sink: bool,
+    clear: bool,
+) -> io::Result<Fifo> {
     let r = f.step(valid, payload, sink, clear);
-    flag(b"valid=", valid);
-    payload_fields(payload);
-    flag(b" sink=", sink);
-    flag(b" clear=", clear);
+    flag(rt, "valid=", valid)?;
+    payload_fields(rt, payload)?;
+    flag(rt, " sink=", sink)?;
+    flag(rt, " clear=", clear)?;
     let outcome = r.outcome;
-    field(b" | refusal=", number(outcome) as u64);
-    flag(b" ready=", r.ready);
-    flag(b" valid=", r.valid);
-    let shown = r.payload;
-    payload_fields(shown);
+    field(rt, " | refusal=", u64::from(number(outcome)))?;
+    flag(rt, " ready=", r.ready)?;
+    flag(rt, " valid=", r.valid)?;
+    payload_fields(rt, r.payload)?;
     let next = r.next;
-    field(b" held=", next.count as u64);
-    io::write_all(1, b"\n");
-    next
+    field(rt, " held=", next.count as u64)?;
+    println!(rt; "")?;
+    Ok(next)
 }
 
 // A cycle that offers a word with all strobes set.
-fn offer(f: Fifo, word: u32, sink: bool) -> Fifo {
+fn offer(rt: &impl Print, f: Fifo, word: u32, sink: bool) -> io::Result<Fifo> {
     step(
+        rt,
         f,
         true,
         Payload {
@@ -87,74 +95,83 @@ fn offer(f: Fifo, word: u32, sink: bool) -> Fifo {
 }
 
 // A cycle that offers nothing, the sink ready.
-fn drain(f: Fifo) -> Fifo {
-    step(f, false, Payload { data: 0, strb: 0 }, true, false)
+fn drain(rt: &impl Print, f: Fifo) -> io::Result<Fifo> {
+    step(rt, f, false, Payload { data: 0, strb: 0 }, true, false)
 }
 
 // Four are offered, of which four fit into a plain FIFO and three into an early-stall one. What comes next waits, also in the cycle in
 // which the full FIFO pops.
-fn filled(empty: Fifo) -> Fifo {
-    let f = offer(empty, 11, false);
-    let f = offer(f, 12, false);
-    let f = offer(f, 13, false);
-    let f = offer(f, 14, false);
-    let f = offer(f, 15, false);
-    offer(f, 15, true)
+fn filled(rt: &impl Print, empty: Fifo) -> io::Result<Fifo> {
+    let f = offer(rt, empty, 11, false)?;
+    let f = offer(rt, f, 12, false)?;
+    let f = offer(rt, f, 13, false)?;
+    let f = offer(rt, f, 14, false)?;
+    let f = offer(rt, f, 15, false)?;
+    offer(rt, f, 15, true)
 }
 
 // Until nothing is shown.
-fn drained(f: Fifo) -> Fifo {
-    let f = drain(f);
-    let f = drain(f);
-    let f = drain(f);
-    drain(f)
+fn drained(rt: &impl Print, f: Fifo) -> io::Result<Fifo> {
+    let f = drain(rt, f)?;
+    let f = drain(rt, f)?;
+    let f = drain(rt, f)?;
+    drain(rt, f)
 }
 
 // Seven payloads pass through a ring of four.
-fn wrapped(f: Fifo) -> Fifo {
-    let f = offer(f, 21, false);
-    let f = offer(f, 22, false);
-    let f = offer(f, 23, true);
-    let f = offer(f, 24, true);
-    let f = offer(f, 25, true);
-    let f = offer(f, 26, false);
-    let f = offer(f, 27, false);
-    let f = drain(f);
-    drained(f)
+fn wrapped(rt: &impl Print, f: Fifo) -> io::Result<Fifo> {
+    let f = offer(rt, f, 21, false)?;
+    let f = offer(rt, f, 22, false)?;
+    let f = offer(rt, f, 23, true)?;
+    let f = offer(rt, f, 24, true)?;
+    let f = offer(rt, f, 25, true)?;
+    let f = offer(rt, f, 26, false)?;
+    let f = offer(rt, f, 27, false)?;
+    let f = drain(rt, f)?;
+    drained(rt, f)
 }
 
 // A clear, and the two refusals.
-fn refused(f: Fifo) {
-    let f = offer(f, 31, false);
-    let f = offer(f, 32, false);
-    let f = step(f, true, Payload { data: 33, strb: 16 }, true, true);
-    let f = step(f, true, Payload { data: 33, strb: 15 }, true, true);
-    let mut broken = offer(f, 34, false);
+fn refused(rt: &impl Print, f: Fifo) -> io::Result<()> {
+    let f = offer(rt, f, 31, false)?;
+    let f = offer(rt, f, 32, false)?;
+    let f = step(rt, f, true, Payload { data: 33, strb: 16 }, true, true)?;
+    let f = step(rt, f, true, Payload { data: 33, strb: 15 }, true, true)?;
+    let mut broken = offer(rt, f, 34, false)?;
     broken.count = 5;
-    step(broken, true, Payload { data: 35, strb: 16 }, true, false);
+    step(
+        rt,
+        broken,
+        true,
+        Payload { data: 35, strb: 16 },
+        true,
+        false,
+    )?;
+    Ok(())
 }
 
-fn main() {
-    new(false, 2);
-    new(false, 16);
-    new(false, 18);
-    new(false, 64);
-    new(false, 0);
-    new(false, 3);
-    new(false, 17);
-    new(false, 65);
-    new(false, 66);
-    new(true, 4);
-    new(true, 64);
-    new(true, 2);
-    new(true, 5);
-    new(true, 66);
-    let f = new(false, 4);
-    let f = filled(f);
-    let f = drained(f);
-    let f = wrapped(f);
-    refused(f);
-    let f = new(true, 4);
-    let f = filled(f);
-    drained(f);
+fn main(rt: HostRuntime) -> io::Result<()> {
+    new(&rt, false, 2)?;
+    new(&rt, false, 16)?;
+    new(&rt, false, 18)?;
+    new(&rt, false, 64)?;
+    new(&rt, false, 0)?;
+    new(&rt, false, 3)?;
+    new(&rt, false, 17)?;
+    new(&rt, false, 65)?;
+    new(&rt, false, 66)?;
+    new(&rt, true, 4)?;
+    new(&rt, true, 64)?;
+    new(&rt, true, 2)?;
+    new(&rt, true, 5)?;
+    new(&rt, true, 66)?;
+    let f = new(&rt, false, 4)?;
+    let f = filled(&rt, f)?;
+    let f = drained(&rt, f)?;
+    let f = wrapped(&rt, f)?;
+    refused(&rt, f)?;
+    let f = new(&rt, true, 4)?;
+    let f = filled(&rt, f)?;
+    drained(&rt, f)?;
+    Ok(())
 }

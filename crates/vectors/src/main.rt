@@ -2,33 +2,60 @@
 //
 // Prints the name of each text whose report differs, and at the end how many texts there are and how many reports differ.
 // A file that is missing differs.
-ghost use Rattle.io.specs.Counts.{IsPrefixLen};
+#![tactic(auto)]
 
-use libc::STDOUT_FILENO;
+ghost use Rattle.vectors.specs.Counts.{IsPrefixLen};
+
+use std::env::FillError;
+use std::fs::File;
+use std::io::Read;
+use std::rt::{Env, Files};
+use std::{io, str};
 
 // Room for a name.
 const MAX_NAME: usize = 256;
 
+// Room for a report, which is shorter.
+const REPORT_ROOM: usize = 4096;
+
+// Room for a bench text: one that fills it is longer than any of the form.
+const TEXT_ROOM: usize = 65536;
+
 // Whether a file is there, and how many of its bytes were read.
-#[derive(Drop)]
+#[derive(Clone, Copy)]
 struct Loaded {
     found: bool,
     count: usize,
 }
 
+// Reads until the buffer is full, the file ends or a read fails, and counts what stands at the start of the buffer.
+fn read_full(file: &mut impl Read, buf: &mut [u8]) -> usize
+    ensures { IsPrefixLen result buf.new }
+{
+    let mut done: usize = 0;
+    while done < buf.len() {
+        match file.read(&mut buf[done..]) {
+            Ok(0) => break,
+            Ok(n) => done += n,
+            Err(_) => break,
+        }
+    }
+    done
+}
+
 // Reads a file into a buffer, as far as it fits.
-fn load(path: &[u8], buf: &mut [u8]) -> Loaded
+fn load(rt: &impl Files, path: &[u8], buf: &mut [u8]) -> Loaded
     ensures { IsPrefixLen result.count buf.new }
 {
-    let fd = os::open_read(path);
-    if fd < 0 {
+    // Bytes that are no text name no file, as an empty name does.
+    let name = str::from_utf8(path).unwrap_or("");
+    let Ok(mut file) = File::open(rt, name) else {
         return Loaded {
             found: false,
             count: 0,
         };
-    }
-    let count = io::read_full(fd, buf);
-    libc::close(fd);
+    };
+    let count = read_full(&mut file, buf);
     Loaded {
         found: true,
         count: count,
@@ -44,25 +71,25 @@ fn report(text: &[u8], buf: &mut [u8]) -> usize
 }
 
 // Whether the report of a text is what a file holds.
-fn is_reported(text: &[u8], path: &[u8]) -> bool {
-    let mut made = io::buffer();
+fn is_reported(rt: &impl Files, text: &[u8], path: &[u8]) -> bool {
+    let mut made = [0u8; REPORT_ROOM];
     let count = report(text, &mut made);
-    let mut expected = io::buffer();
-    let loaded = load(path, &mut expected);
+    let mut expected = [0u8; REPORT_ROOM];
+    let loaded = load(rt, path, &mut expected);
     let holds = loaded.count;
-    loaded.found & check::same(&made[..count], &expected[..holds])
+    loaded.found & (made[..count] == expected[..holds])
 }
 
 // Whether the report of the text in one file is what another holds. A text that fills the buffer is longer than any of the form.
-fn files_agree(text_path: &[u8], report_path: &[u8]) -> bool {
-    let mut text = io::large_buffer();
-    let loaded = load(text_path, &mut text);
+fn files_agree(rt: &impl Files, text_path: &[u8], report_path: &[u8]) -> bool {
+    let mut text = [0u8; TEXT_ROOM];
+    let loaded = load(rt, text_path, &mut text);
     let count = loaded.count;
-    loaded.found & is_reported(&text[..count], report_path)
+    loaded.found & is_reported(rt, &text[..count], report_path)
 }
 
 // Whether a vector agrees: its text's name, NAME.in, has this length. One that is too short or too long names no vector.
-fn vector_agrees(text_path: [u8; MAX_NAME], length: usize) -> bool {
+fn vector_agrees(rt: &impl Files, text_path: [u8; MAX_NAME], length: usize) -> bool {
     if length < 2 {
         return false;
     }
@@ -73,33 +100,41 @@ fn vector_agrees(text_path: [u8; MAX_NAME], length: usize) -> bool {
     report_path[length - 2] = b'o';
     report_path[length - 1] = b'u';
     report_path[length] = b't';
-    files_agree(&text_path[..length], &report_path[..length + 1])
+    files_agree(rt, &text_path[..length], &report_path[..length + 1])
 }
 
 // Runs the vector whose text an argument names, and prints the name if the report differs.
-fn differs(i: usize) -> bool {
+fn differs(rt: &(impl Files + Env + Print), i: usize) -> io::Result<bool> {
     let mut path = [0u8; MAX_NAME];
-    let length = os::arg(i, &mut path);
-    if vector_agrees(path, length) {
-        return false;
+    let length = rt.arg(i, &mut path).unwrap_or(0);
+    if vector_agrees(rt, path, length) {
+        return Ok(false);
     }
-    io::write_all(STDOUT_FILENO, &path[..length]);
-    io::write_all(STDOUT_FILENO, b" differs\n");
-    true
+    rt.write_all(&path[..length])?;
+    println!(rt; " differs")?;
+    Ok(true)
 }
 
-fn main() {
-    let arguments = os::arg_count();
+// How many arguments there are, with the program's name.
+fn arg_count(rt: &impl Env) -> usize {
+    let mut none = [0u8; 0];
+    for i in 0..usize::MAX {
+        if let Err(FillError::NotPresent) = rt.arg(i, &mut none) {
+            return i;
+        }
+    }
+    usize::MAX
+}
+
+fn main(rt: HostRuntime) -> io::Result<()> {
+    let arguments = arg_count(&rt);
     let mut differing: u64 = 0;
     let mut i = 1;
     while i < arguments {
-        if differs(i) {
+        if differs(&rt, i)? {
             differing += 1;
         }
         i += 1;
     }
-    io::print_decimal(STDOUT_FILENO, (i - 1) as u64);
-    io::write_all(STDOUT_FILENO, b" vectors, ");
-    io::print_decimal(STDOUT_FILENO, differing);
-    io::write_all(STDOUT_FILENO, b" differ\n");
+    println!(rt; "{} vectors, {differing} differ", i - 1)
 }
