@@ -1,9 +1,9 @@
-//! Links the proved library, which `rt staticlib exports` builds.
+//! Links the proved library, which `rt lib` builds in crates/exports.
 
 use std::path::Path;
 
 fn main() {
-    let root = Path::new(env!("CARGO_MANIFEST_DIR")).join("../../target/staticlib");
+    let root = Path::new(env!("CARGO_MANIFEST_DIR")).join("../../crates/exports/out");
     println!("cargo:rustc-link-search=native={}", root.display());
     println!("cargo:rustc-link-lib=static=exports");
     println!(

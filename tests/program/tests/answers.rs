@@ -56,7 +56,7 @@ fn replaced(from: &str, to: &str) -> Vec<u8> {
 
 #[test]
 fn bad_input() {
-    let program = fs::read(root().join("target/bin/bench")).unwrap();
+    let program = fs::read(root().join("crates/bench/out/bench")).unwrap();
     let more = |surplus: &str| [BENCH.text, surplus.as_bytes()].concat();
     let bad = [
         ("nothing", Vec::new(), 9),
