@@ -1,4 +1,3 @@
-pub mod Any
 pub mod Bools
 pub mod Below
 pub mod Tables

@@ -10,13 +10,16 @@ ghost use Rattle.std.specs.Prelude.{◌≡◌};
 ghost use Rattle.signals.specs.Payloads.{max_strb};
 ghost use Rattle.signals.specs.Refusals.{number_of, max_cycles};
 
+use std::error::Error;
+use std::fmt;
+
 // How many cycles a trace may hold.
 pub const MAX_CYCLES: usize = 65536;
 
 // The largest strobe of a 32-bit word: a bit for each byte.
 pub const MAX_STRB: u8 = 15;
 
-// The verdicts' numbers: 0 is none, for a trace that is refused.
+// The verdicts' numbers, where a call for C answers no enum: 0 is none, for a trace that is refused.
 pub const NONE: u8 = 0;
 
 pub const CLEAN: u8 = 1;
@@ -43,14 +46,42 @@ pub fn max_strb() -> u8
 
 // What a stream carries in one cycle: a word, and a strobe bit for each of its bytes.
 #[repr(C)]
-#[derive(Clone, Copy)]
+#[derive(Clone, Copy, Debug, PartialEq, Eq)]
 pub struct Payload {
     pub data: u32,
     pub strb: u8,
 }
 
-// What is wrong with a refused input. `specs/Refusals.antt` gives each its number.
+// What is shown when valid is 0.
+pub const ZEROS: Payload = Payload { data: 0, strb: 0 };
+
+// What a step is given: what the source offers, whether the sink is ready, and whether this is a clear.
+#[derive(Clone, Copy, Debug, PartialEq, Eq)]
+pub struct Cycle {
+    pub valid: bool,
+    pub payload: Payload,
+    pub sink: bool,
+    pub clear: bool,
+}
+
+// What a step shows, and the state after it.
 #[derive(Clone, Copy)]
+pub struct Stepped<S> {
+    pub ready: bool,
+    pub valid: bool,
+    pub payload: Payload,
+    pub next: S,
+}
+
+// The first breach of a trace: the rule that is broken, and the cycle.
+#[derive(Clone, Copy)]
+pub struct Breach<R> {
+    pub rule: R,
+    pub cycle: u32,
+}
+
+// What is wrong with a refused input. `specs/Refusals.antt` gives each its number.
+#[derive(Clone, Copy, Debug, PartialEq, Eq)]
 pub enum Refusal {
     LengthsDiffer,
     IllegalBits,
@@ -66,19 +97,12 @@ pub enum Refusal {
     NotThePlan,
 }
 
-// How a call that answers with a state ended.
-#[derive(Clone, Copy)]
-pub enum Outcome {
-    Accepted,
-    Refused(Refusal),
-}
+// The refusal's number in document 01.
+impl From<Refusal> for u8 {
+    ghost from_gives = { λ why number. number ≡ number_of why };
 
-impl Refusal {
-    // The refusal's number in document 01.
-    pub fn number(self) -> u8
-        ensures { result ≡ number_of self }
-    {
-        match self {
+    fn from(why: Refusal) -> u8 {
+        match why {
             Refusal::LengthsDiffer => 1,
             Refusal::IllegalBits => 2,
             Refusal::TooLong => 3,
@@ -94,3 +118,21 @@ impl Refusal {
         }
     }
 }
+
+impl Refusal {
+    // The same by a name of its own.
+    pub fn number(self) -> u8
+        ensures { result ≡ number_of self }
+    {
+        u8::from(self)
+    }
+}
+
+// A refusal is printed by its number.
+impl fmt::Display for Refusal {
+    fn fmt<W: fmt::Write>(&self, f: &mut fmt::Formatter<W>) -> fmt::Result {
+        write!(f, "{}", self.number())
+    }
+}
+
+impl Error for Refusal {}

@@ -1,4 +1,6 @@
 // The fields of a memory trace's control byte that are judged.
+//
+// Each reader is one expression, as its definition is: one over the bit's place would be no plainer.
 ghost use Rattle.std.specs.Prelude.{◌≡◌};
 ghost use Rattle.signals.specs.Memory.{req_bit, gnt_bit, wen_bit, r_valid_bit};
 

@@ -1,4 +1,6 @@
 // The fields of a stream's control byte.
+//
+// Each reader is one expression, as its definition is: one over the bit's place would be no plainer.
 ghost use Rattle.std.specs.Prelude.{◌≡◌};
 ghost use Rattle.signals.specs.Refusals.{any_of};
 ghost use Rattle.signals.specs.Stream.{valid_bit, ready_bit, clear_bit, reserved_bit, strb_bits};
@@ -33,10 +35,8 @@ pub fn any_reserved(controls: &[u8]) -> bool
     ensures { result ≡ any_of reserved_bit controls.now }
 {
     let mut any = false;
-    let mut i = 0;
-    while i < controls.len() {
-        any = any | reserved(controls[i]);
-        i += 1;
+    for control in controls {
+        any |= reserved(*control);
     }
     any
 }

@@ -1,12 +1,9 @@
--- The loop of `any_reserved`: what was found below `i` and the cycles from there on answer together for the whole trace.
-use Rattle.std.proofs.Common.{length, ◌-◌, ◌≡◌, ◌≤◌, ◌||◌, drop}
+-- The loop of `any_reserved`: what was found so far and the cycles that are left answer together for the whole trace.
+use Rattle.std.proofs.Common.{◌≡◌, ◌||◌, drop}
 use Rattle.signals.specs.Refusals.{any_of}
 use Rattle.signals.specs.Stream.{reserved_bit}
 use Rattle.signals.proofs.stream.any_reserved.Given as goal
 
-abbrev pub invariant-loop-i : goal.invariant-loop-i
-invariant-loop-i l =
-    (l.i ≤ length l.controls) × (l.any || any_of reserved_bit (drop l.i l.controls) ≡ any_of reserved_bit l.controls)
-
-abbrev pub decreases-loop-i : goal.decreases-loop-i
-decreases-loop-i l = length l.controls - l.i
+abbrev pub invariant-loop-control : goal.invariant-loop-control
+invariant-loop-control l =
+    l.any || any_of reserved_bit (drop l.control-index l.controls) ≡ any_of reserved_bit l.controls
