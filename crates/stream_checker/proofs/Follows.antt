@@ -1,43 +1,44 @@
 -- A watch follows a trace: what it keeps is what the rules ask of the cycles before, so it finds what they find.
 -- Each cycle by one step of the watch; the counters by the last one carried since a clear cycle. Assumes nothing.
 use Prim.Native.Nat.{ℕ, zero, suc}
-use mathlib.Core.Bool.{Bool, true, false, cond, not, ◌&&◌, ◌||◌}
+use mathlib.Core.Bool.{Bool, true, false, cond}
 use mathlib.Core.List.{List}
 use mathlib.Core.Option.{Option, none, some}
 use mathlib.Core.Path.{◌≡◌, refl, ◌∙◌, ap}
-use lib.Dec.{eqb}
+use Rattle.std.specs.Prelude as std
+use Rattle.std.specs.Prelude.{Some, None}
 use Rattle.signals.specs.Stream.{Sample, sample, sample_at, clear_cycle}
 use Rattle.signals.specs.Tables.{Row}
 use Rattle.signals.specs.Written.{RuleName}
 use Rattle.stream_checker.specs.declared.watch.Watch.{Watch}
 use Rattle.stream_checker.specs.Rules.{stalled, breaks_held, breaks_stable, between, counter, after_counter, carries_counter, last_counter, out_of_seq, breaks_seq, in_order, unless_clear, rules}
-use Rattle.stream_checker.specs.Step.{start, before, breaks_seq_after, rules_of, rules_after, next, watch_after, rules_from}
+use Rattle.stream_checker.specs.Step.{start, before, not_due, breaks_seq_after, rules_of, rules_after, next, watch_after, rules_from}
 
 -- s is the cycle before cycle i; before the first, one that is not stalled
 abbrev Previous : (ℕ → Sample) → ℕ → Sample → Type 0
 Previous trace zero s = stalled s ≡ false
 Previous trace (suc c) s = s ≡ trace c
 
--- whether a counter was carried, and the one due after it
-abbrev Counted : Option ℕ → (counted : Bool) → (due : ℕ) → Type 0
-Counted none counted due = counted ≡ false
-Counted (some n) counted due = (counted ≡ true) × (due ≡ after_counter n)
+-- the counter due after the one that was carried last, if one was
+abbrev due_by : Option ℕ → std.Option ℕ
+due_by none = None
+due_by (some n) = Some (after_counter n)
 
 -- counters are kept where rule seq is judged
 record Follows (seq_on : Bool) (trace : ℕ → Sample) (i : ℕ) (w : Watch) : Type 0 where
   previous : Previous trace i (before w)
-  counters : seq_on ≡ true → Counted (last_counter trace i) w.counted w.due
+  counters : seq_on ≡ true → w.due ≡ due_by (last_counter trace i)
 
-counted_next :
-    (clear carries : Bool) (n : ℕ) (last : Option ℕ) (counted : Bool) (due : ℕ) → Counted last counted due →
-    Counted (cond clear none (cond carries (some n) last)) (not clear && (carries || counted)) (cond carries (after_counter n) due)
-counted_next true carries n last counted due h = refl
-counted_next false true n last counted due h = (refl, refl)
-counted_next false false n last counted due h = h
+due_next :
+    (clear carries : Bool) (n : ℕ) (last : Option ℕ) →
+    cond clear None (cond carries (Some (after_counter n)) (due_by last)) ≡ due_by (cond clear none (cond carries (some n) last))
+due_next true carries n last = refl
+due_next false true n last = refl
+due_next false false n last = refl
 
-counted_seq : (last : Option ℕ) (counted : Bool) (due n : ℕ) → Counted last counted due → counted && not (eqb n due) ≡ out_of_seq last n
-counted_seq none counted due n h = rw h
-counted_seq (some m) counted due n h = rw (h.0, h.1)
+due_seq : (last : Option ℕ) (n : ℕ) → not_due (due_by last) n ≡ out_of_seq last n
+due_seq none n = refl
+due_seq (some m) n = refl
 
 -- rule seq counts only where it is judged
 seq_judged : (seq_on held stable a b : Bool) → (seq_on ≡ true → a ≡ b) → in_order seq_on held stable a ≡ in_order seq_on held stable b
@@ -54,7 +55,7 @@ module _ (seq_on : Bool) (trace : ℕ → Sample) where
         previous = rw e;
         counters = λ on.
             let now = sample control word in
-            rw (e, on) (counted_next (clear_cycle now) (carries_counter now) (counter now) (last_counter trace i) w.counted w.due (f.counters on));
+            rw (e, on, f.counters on) (due_next (clear_cycle now) (carries_counter now) (counter now) (last_counter trace i));
       }
 
   between_same :
@@ -63,8 +64,8 @@ module _ (seq_on : Bool) (trace : ℕ → Sample) where
   between_same breaks free zero s h = free s (trace zero) h
   between_same breaks free (suc c) s h = ap (λ (t : Sample). breaks t (trace (suc c))) h
 
-  seq_same : (i : ℕ) (w : Watch) → Counted (last_counter trace i) w.counted w.due → breaks_seq_after w (trace i) ≡ breaks_seq trace i
-  seq_same i w h = rw (counted_seq (last_counter trace i) w.counted w.due (counter (trace i)) h)
+  seq_same : (i : ℕ) (w : Watch) → w.due ≡ due_by (last_counter trace i) → breaks_seq_after w (trace i) ≡ breaks_seq trace i
+  seq_same i w h = rw (h, due_seq (last_counter trace i) (counter (trace i)))
 
   -- the watch breaks the rules that the trace breaks
   order_same :

@@ -14,22 +14,15 @@ use Rattle.signals.specs.Stream.{sample_at}
 use Rattle.signals.specs.Tables.{Row, first_applying}
 use Rattle.signals.specs.Written.{RuleName, judged}
 use Rattle.signals.proofs.Judging.{judges, stops, goes_on, count_le}
-use Rattle.stream_checker.specs.declared.Found.{Found}
-use Rattle.stream_checker.specs.declared.Found.TheVariants.{First}
-use Rattle.stream_checker.specs.declared.Rule.{Rule}
 use Rattle.stream_checker.specs.declared.Seen.{Seen}
 use Rattle.stream_checker.specs.declared.watch.Watch.{Watch}
 use Rattle.stream_checker.specs.Rules.{rules}
 use Rattle.stream_checker.specs.Verdicts.{handshake_at, clear_at, Answer, answer_below}
-use Rattle.stream_checker.specs.Step.{start, rules_of, rules_after, next, rules_from, Sight, sight_below, finding_of, sight_of, SoFar}
-use Rattle.stream_checker.specs.Step.Sight.{finding, handshakes, clears}
-use Rattle.stream_checker.specs.Written.{rule_name}
+use Rattle.stream_checker.specs.Step.{start, rules_of, rules_after, next, rules_from, Sight, sight_below, sight_of, SoFar}
+use Rattle.stream_checker.specs.Step.Sight.{cycles, handshakes, clears}
 use Rattle.stream_checker.proofs.Follows.{rules_from_start}
 
 module _ (w : Watch) (controls words : List ℕ) (seq_on : Bool) where
-  pub so_far_start : SoFar w controls words seq_on 0 0 0 w
-  so_far_start = record { nothing = refl; counted = refl; cleared = refl; watched = refl }
-
   module _ (i handshakes clears : ℕ) (after : Watch) (so_far : SoFar w controls words seq_on i handshakes clears after) where
     -- what the watch finds in cycle i is what the rules say
     found_there : (r : Option RuleName) → r ≡ first_applying (rules_after after (sample_at controls words i) seq_on) → first_applying (rules_from w controls words seq_on i) ≡ r
@@ -41,7 +34,7 @@ module _ (w : Watch) (controls words : List ℕ) (seq_on : Bool) where
 
     pub sight_stops :
         (n : ℕ) (r : RuleName) → i < n → clear_at (sample_at controls words) i ≡ false → some r ≡ first_applying (rules_of after (sample_at controls words i) seq_on) →
-        ◌≡◌ {A = Sight} (record { finding = broken r i; handshakes = handshakes; clears = clears; watch = after }) (sight_below w controls words seq_on n)
+        ◌≡◌ {A = Sight} (record { finding = broken r i; cycles = i; handshakes = handshakes; clears = clears; watch = after }) (sight_below w controls words seq_on n)
     sight_stops n r h unclear e =
         rw (stops (rules_from w controls words seq_on) i n r h so_far.nothing (found_there (some r) (e ∙ all_judged unclear)), so_far.counted, so_far.cleared, so_far.watched)
 
@@ -80,7 +73,7 @@ module _ (w : Watch) (controls words : List ℕ) (seq_on : Bool) where
 
     pub sight_ends :
         (n : ℕ) → i ≡ n →
-        ◌≡◌ {A = Sight} (record { finding = clean; handshakes = handshakes; clears = clears; watch = after }) (sight_below w controls words seq_on n)
+        ◌≡◌ {A = Sight} (record { finding = clean; cycles = i; handshakes = handshakes; clears = clears; watch = after }) (sight_below w controls words seq_on n)
     sight_ends n e = rw (← e, so_far.nothing, so_far.counted, so_far.cleared, so_far.watched)
 
     -- a cycle adds at most one to a count
@@ -99,8 +92,12 @@ finding_same rules others h (suc n) =
     ∙ ap (λ (rows : List (Row RuleName)). found (finding_below others n) (first_applying rows) n) (h n)
 
 -- a sight as an answer
+abbrev pub answer_with : Finding RuleName → (handshakes clears : ℕ) → Answer
+answer_with finding handshakes clears =
+    record { judgement = record { verdict = judged finding; handshakes = handshakes }; clears = clears }
+
 abbrev pub answer_of : Sight → Answer
-answer_of s = record { judgement = record { verdict = judged s.finding; handshakes = s.handshakes }; clears = s.clears }
+answer_of s = answer_with s.finding s.handshakes s.clears
 
 -- from the start on, the sight is the answer to the trace
 pub sight_from_start :
@@ -108,16 +105,16 @@ pub sight_from_start :
 sight_from_start controls words seq_on n =
     rw (finding_same (rules_from start controls words seq_on) (rules seq_on (sample_at controls words)) (rules_from_start seq_on controls words) n)
 
--- a breach lies among the cycles, and there is no more of anything than cycles
-pub finding_inside : (rules : ℕ → List (Row RuleName)) (n : ℕ) (r : RuleName) (c : ℕ) → finding_below rules n ≡ broken r c → c < n
-finding_inside rules n r c e = (((judges rules n).broken_exactly r c).0 e).inside
-
-pub count_inside : (has : ℕ → Bool) (rules : ℕ → List (Row RuleName)) (n : ℕ) → count_below has (cycles_counted (finding_below rules n) n) ≤ n
-count_inside has rules n = inside (finding_below rules n) refl
+-- no more cycles are counted than there are, and no more of anything than cycles
+counted_inside : (rules : ℕ → List (Row RuleName)) (n : ℕ) → cycles_counted (finding_below rules n) n ≤ n
+counted_inside rules n = inside (finding_below rules n) refl
   where
-    inside : (f : Finding RuleName) → finding_below rules n ≡ f → count_below has (cycles_counted f n) ≤ n
-    inside clean e = count_le has n
-    inside (broken r c) e = omega (arith, count_le has c, finding_inside rules n r c e)
+    inside : (f : Finding RuleName) → finding_below rules n ≡ f → cycles_counted f n ≤ n
+    inside clean e = omega arith
+    inside (broken r c) e = omega (arith, (((judges rules n).broken_exactly r c).0 e).inside)
+
+count_inside : (has : ℕ → Bool) (rules : ℕ → List (Row RuleName)) (n : ℕ) → count_below has (cycles_counted (finding_below rules n) n) ≤ n
+count_inside has rules n = omega (arith, count_le has (cycles_counted (finding_below rules n) n), counted_inside rules n)
 
 -- What whoever calls the loop with sequences of one length knows of its answer.
 module _ (seen : Seen) (w : Watch) (controls words : List ℕ) (seq_on : Bool) (same : length controls ≡ length words)
@@ -128,6 +125,9 @@ module _ (seen : Seen) (w : Watch) (controls words : List ℕ) (seq_on : Bool) (
       fewer : min (length controls) (length words) ≡ length controls
       fewer = omega (arith, same)
 
+  pub cycles_inside : seen.cycles ≤ length controls
+  cycles_inside = rw (ap cycles sees_all) (counted_inside (rules_from w controls words seq_on) (length controls))
+
   pub handshakes_inside : seen.handshakes ≤ length controls
   handshakes_inside =
       rw (ap handshakes sees_all)
@@ -137,17 +137,9 @@ module _ (seen : Seen) (w : Watch) (controls words : List ℕ) (seq_on : Bool) (
   clears_inside =
       rw (ap clears sees_all) (count_inside (clear_at (sample_at controls words)) (rules_from w controls words seq_on) (length controls))
 
-  pub cycle_inside : (rule : Rule) (c : ℕ) → seen.found ≡ First rule c → c < length controls
-  cycle_inside rule c e =
-      finding_inside (rules_from w controls words seq_on) (length controls) (rule_name rule) c (sym (ap finding sees_all) ∙ ap finding_of e)
-
   -- from the start on it is the answer to the trace
-  pub sees_answer :
-      w ≡ start → (f : Found) → seen.found ≡ f →
-      ◌≡◌ {A = Answer} (record { judgement = record { verdict = judged (finding_of f); handshakes = seen.handshakes }; clears = seen.clears })
-      (answer_below seq_on (sample_at controls words) (length controls))
-  sees_answer e f found-is =
-      ap (λ (g : Found). record { judgement = record { verdict = judged (finding_of g); handshakes = seen.handshakes }; clears = seen.clears }) (sym found-is)
-      ∙ ap answer_of sees_all
+  pub sees_answer : w ≡ start → answer_of (sight_of seen) ≡ answer_below seq_on (sample_at controls words) (length controls)
+  sees_answer e =
+      ap answer_of sees_all
       ∙ ap (λ (v : Watch). answer_of (sight_below v controls words seq_on (length controls))) e
       ∙ sight_from_start controls words seq_on (length controls)

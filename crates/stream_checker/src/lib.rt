@@ -5,7 +5,7 @@
 
 pub mod watch;
 
-ghost use Rattle.std.specs.Prelude.{cond, ◌≡◌, ◌+◌, ◌<◌, ◌≤◌, ◌^◌, min, length};
+ghost use Rattle.std.specs.Prelude.{cond, ◌≡◌, ◌+◌, ◌<◌, ◌≤◌, ◌^◌, min, length, Ok};
 ghost use Rattle.signals.specs.Numbers.{rule_number};
 ghost use Rattle.signals.specs.Refusals.{refusal_of, max_cycles};
 ghost use Rattle.signals.specs.Stream.{sample_at};
@@ -15,11 +15,11 @@ ghost use Rattle.stream_checker.specs.Written.{rule_name, written};
 ghost use Rattle.stream_checker.specs.Step.{sight_below, sight_of, SoFar, Leads};
 
 use signals::stream::{any_reserved, clear};
-use signals::{MAX_CYCLES, Outcome, Refusal, SEQ};
-use watch::{Breach, Watch, handshake};
+use signals::{Breach, MAX_CYCLES, Refusal, SEQ};
+use watch::{Watch, handshake};
 
 // The rules, by what each asks. `specs/Written.antt` gives each its name in document 01.
-#[derive(Clone, Copy)]
+#[derive(Clone, Copy, Debug, PartialEq, Eq)]
 pub enum Rule {
     // Rule 4: a valid that is not taken stays.
     Held,
@@ -29,12 +29,12 @@ pub enum Rule {
     Seq,
 }
 
-impl Rule {
-    // The rule's number where a call answers no enum.
-    pub fn number(self) -> u8
-        ensures { result ≡ rule_number (rule_name self) }
-    {
-        match self {
+// The rule's number where a call answers no enum.
+impl From<Rule> for u8 {
+    ghost from_gives = { λ rule number. number ≡ rule_number (rule_name rule) };
+
+    fn from(rule: Rule) -> u8 {
+        match rule {
             Rule::Held => 4,
             Rule::Stable => 2,
             Rule::Seq => SEQ,
@@ -42,137 +42,145 @@ impl Rule {
     }
 }
 
-#[derive(Clone, Copy)]
-pub enum Verdict {
-    Clean,
-    Broken(Rule, u32),
-    Refused(Refusal),
+impl Rule {
+    // The same by a name of its own.
+    pub fn number(self) -> u8
+        ensures { result ≡ rule_number (rule_name self) }
+    {
+        u8::from(self)
+    }
 }
 
-// What is found in further cycles: no breach, or the first with its place among them.
-#[derive(Clone, Copy)]
-pub enum Found {
-    NoBreach,
-    First(Rule, usize),
-}
-
-// With it, the handshakes and the clears among the cycles before the breach, or among all, and what the next cycle is judged by.
+// What is seen of further cycles: as many as come before the first breach, or all.
 #[derive(Clone, Copy)]
 pub struct Seen {
-    pub found: Found,
+    // The rule that the cycle behind them breaks, if there is a breach.
+    pub breach: Option<Rule>,
+    pub cycles: usize,
+    // The handshakes and the clears among them.
     pub handshakes: usize,
     pub clears: usize,
+    // What the next cycle is judged by.
     pub watch: Watch,
 }
 
-// What is seen up to and with the next clear cycle, and the place after it.
-#[derive(Clone, Copy)]
-struct Stretch {
-    found: Found,
-    end: usize,
-    handshakes: usize,
-    clears: usize,
-    watch: Watch,
-}
-
-// A verdict, with the handshakes and the clears before the broken cycle, or in all cycles when clean.
+// What is found in a trace that is not refused: the first breach, and the handshakes and the clears before it, or in all cycles.
 #[derive(Clone, Copy)]
 pub struct Checked {
-    pub verdict: Verdict,
+    pub breach: Option<Breach<Rule>>,
     pub handshakes: u32,
     pub clears: u32,
 }
 
-// The refusals 1, 3 and 2, in this order.
-fn refusal(control: &[u8], data: &[u32]) -> Outcome
-    ensures { refusal_of result ≡ first_applying (grounds control.now «data».now) }
-{
-    if control.len() != data.len() {
-        return Outcome::Refused(Refusal::LengthsDiffer);
-    }
-    if control.len() > MAX_CYCLES {
-        return Outcome::Refused(Refusal::TooLong);
-    }
-    if any_reserved(control) {
-        return Outcome::Refused(Refusal::IllegalBits);
-    }
-    Outcome::Accepted
+// A trace as it is lent: the cycles that both sequences have.
+#[derive(Clone, Copy)]
+struct Trace<'a> {
+    control: &'a [u8],
+    data: &'a [u32],
 }
 
-// The number of cycles that both sequences have.
-fn cycles_of(control: &[u8], data: &[u32]) -> usize
-    ensures { result ≡ min (length control.now) (length «data».now) }
-{
-    if control.len() < data.len() {
-        control.len()
-    } else {
-        data.len()
-    }
-}
-
-// A count with one cycle more, which counts or not.
-fn count_with(count: usize, counts: bool) -> usize
-    requires { count + 1 < 2 ^ 64 }
-    ensures { result ≡ count + cond counts 1 0 }
-{
-    if counts { count + 1 } else { count }
-}
-
-// Judges further cycles from a place on, up to and with the next clear cycle, or up to the first breach: the one loop for a trace
-// and for a burst. The counts go on from those before.
-fn judge_stretch(
-    watch: Watch,
-    control: &[u8],
-    data: &[u32],
-    from: usize,
-    count: usize,
-    handshakes: usize,
-    clears: usize,
-    seq: bool,
-) -> Stretch
-    requires { (count ≤ length control.now) × (count ≤ length «data».now) × (from < count) × (handshakes ≤ from) × (clears ≤ from) }
-    ensures { (w : Watch) → SoFar w control.now «data».now seq from handshakes clears watch → Leads w control.now «data».now seq from count result }
-{
-    // Field by field: the loop need not keep what lies between the fields.
-    let mut watch = Watch {
-        control: watch.control,
-        data: watch.data,
-        counted: watch.counted,
-        due: watch.due,
-    };
-    let mut handshakes = handshakes;
-    let mut i = from;
-    while i < count {
-        let c = control[i];
-        let d = data[i];
-        if clear(c) {
-            return Stretch {
-                found: Found::NoBreach,
-                end: i + 1,
-                handshakes,
-                clears: clears + 1,
-                watch: watch.cleared(c, d),
-            };
+impl Trace<'_> {
+    // The refusals 1, 3 and 2, in this order.
+    fn refusal(self) -> Result<(), Refusal>
+        ensures { refusal_of result ≡ first_applying (grounds self.entry.control.now self.entry.«data».now) }
+    {
+        if self.control.len() != self.data.len() {
+            return Err(Refusal::LengthsDiffer);
         }
-        if let Breach::Of(rule) = watch.breach(c, d, seq) {
-            return Stretch {
-                found: Found::First(rule, i),
-                end: i,
-                handshakes,
-                clears,
-                watch,
-            };
+        if self.control.len() > MAX_CYCLES {
+            return Err(Refusal::TooLong);
         }
-        handshakes = count_with(handshakes, handshake(c));
-        watch = watch.next(c, d, seq);
-        i += 1;
+        if any_reserved(self.control) {
+            return Err(Refusal::IllegalBits);
+        }
+        Ok(())
     }
-    Stretch {
-        found: Found::NoBreach,
-        end: i,
-        handshakes,
-        clears,
-        watch,
+
+    // The number of cycles.
+    fn cycles(self) -> usize
+        ensures { result ≡ min (length self.entry.control.now) (length self.entry.«data».now) }
+    {
+        self.control.len().min(self.data.len())
+    }
+
+    // Judges further cycles, up to and with the next clear cycle, or up to the first breach: the one loop for a trace and for a burst. It
+    // goes by places: a zip is no plainer, since a stretch begins at a place and ends at one.
+    fn judge_stretch(self, seen: Seen, seq: bool) -> Seen
+        requires { (seen.cycles < min (length self.control.now) (length self.«data».now)) × (seen.handshakes ≤ seen.cycles) × (seen.clears ≤ seen.cycles) }
+        ensures { (w : Watch) → SoFar w self.entry.control.now self.entry.«data».now seq seen.cycles seen.handshakes seen.clears seen.watch → Leads w self.entry.control.now self.entry.«data».now seq seen.cycles (min (length self.entry.control.now) (length self.entry.«data».now)) result }
+    {
+        // Field by field, as tried for speed: the loop then keeps no bytes that lie between the fields.
+        let mut watch = Watch {
+            control: seen.watch.control,
+            data: seen.watch.data,
+            due: seen.watch.due,
+        };
+        let mut handshakes = seen.handshakes;
+        for cycles in seen.cycles..self.cycles() {
+            let control = self.control[cycles];
+            let data = self.data[cycles];
+            if clear(control) {
+                return Seen {
+                    breach: None,
+                    cycles: cycles + 1,
+                    handshakes,
+                    clears: seen.clears + 1,
+                    watch: watch.cleared(control, data),
+                };
+            }
+            if let Some(rule) = watch.breach(control, data, seq) {
+                return Seen {
+                    breach: Some(rule),
+                    cycles,
+                    handshakes,
+                    clears: seen.clears,
+                    watch,
+                };
+            }
+            handshakes += usize::from(handshake(control));
+            watch = watch.next(control, data, seq);
+        }
+        Seen {
+            breach: None,
+            cycles: self.cycles(),
+            handshakes,
+            clears: seen.clears,
+            watch,
+        }
+    }
+
+    // The same up to the first breach, or to the end. Each turn is a stretch, so that no range counts them.
+    fn judge_all(self, watch: Watch, seq: bool) -> Seen
+        ensures { sight_of result ≡ sight_below watch self.entry.control.now self.entry.«data».now seq (min (length self.entry.control.now) (length self.entry.«data».now)) }
+    {
+        let mut seen = Seen {
+            breach: None,
+            cycles: 0,
+            handshakes: 0,
+            clears: 0,
+            watch,
+        };
+        while seen.cycles < self.cycles() {
+            seen = self.judge_stretch(seen, seq);
+            if seen.breach.is_some() {
+                return seen;
+            }
+        }
+        seen
+    }
+
+    // What is found from the start on, in a trace that is not refused.
+    fn judge(self, seq: bool) -> Checked
+        requires { (length self.control.now ≡ length self.«data».now) × (length self.control.now ≤ max_cycles) }
+        ensures { written (Ok result) ≡ answer_below seq (sample_at self.entry.control.now self.entry.«data».now) (length self.entry.control.now) }
+    {
+        let seen = self.judge_all(Watch::start(), seq);
+        let cycle = seen.cycles as u32;
+        Checked {
+            breach: seen.breach.map(|rule| Breach { rule, cycle }),
+            handshakes: seen.handshakes as u32,
+            clears: seen.clears as u32,
+        }
     }
 }
 
@@ -180,68 +188,14 @@ fn judge_stretch(
 pub fn judge_cycles(watch: Watch, control: &[u8], data: &[u32], seq: bool) -> Seen
     ensures { sight_of result ≡ sight_below watch control.now «data».now seq (min (length control.now) (length «data».now)) }
 {
-    let count = cycles_of(control, data);
-    let mut watch = watch;
-    let mut handshakes = 0;
-    let mut clears = 0;
-    let mut i = 0;
-    while i < count {
-        let stretch = judge_stretch(watch, control, data, i, count, handshakes, clears, seq);
-        let found = stretch.found;
-        handshakes = stretch.handshakes;
-        clears = stretch.clears;
-        watch = stretch.watch;
-        if let Found::First(rule, c) = found {
-            return Seen {
-                found: Found::First(rule, c),
-                handshakes,
-                clears,
-                watch,
-            };
-        }
-        i = stretch.end;
-    }
-    Seen {
-        found: Found::NoBreach,
-        handshakes,
-        clears,
-        watch,
-    }
+    Trace { control, data }.judge_all(watch, seq)
 }
 
-// The verdict on a trace that is not refused.
-fn judge_trace(control: &[u8], data: &[u32], seq: bool) -> Checked
-    requires { (length control.now ≡ length «data».now) × (length control.now ≤ max_cycles) }
-    ensures { written result ≡ answer_below seq (sample_at control.now «data».now) (length control.now) }
-{
-    let seen = judge_cycles(Watch::start(), control, data, seq);
-    let handshakes = seen.handshakes as u32;
-    let clears = seen.clears as u32;
-    let found = seen.found;
-    match found {
-        Found::NoBreach => Checked {
-            verdict: Verdict::Clean,
-            handshakes,
-            clears,
-        },
-        Found::First(rule, cycle) => Checked {
-            verdict: Verdict::Broken(rule, cycle as u32),
-            handshakes,
-            clears,
-        },
-    }
-}
-
-// The verdict on a stream's trace, for any two sequences; `seq` switches rule seq on.
-pub fn check_stream(control: &[u8], data: &[u32], seq: bool) -> Checked
+// What is found in a stream's trace, for any two sequences; `seq` switches rule seq on.
+pub fn check_stream(control: &[u8], data: &[u32], seq: bool) -> Result<Checked, Refusal>
     ensures { written result ≡ check_stream control.now «data».now seq }
 {
-    match refusal(control, data) {
-        Outcome::Accepted => judge_trace(control, data, seq),
-        Outcome::Refused(why) => Checked {
-            verdict: Verdict::Refused(why),
-            handshakes: 0,
-            clears: 0,
-        },
-    }
+    let trace = Trace { control, data };
+    trace.refusal()?;
+    Ok(trace.judge(seq))
 }

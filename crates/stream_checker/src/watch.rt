@@ -4,30 +4,23 @@ ghost use Rattle.signals.specs.Payloads.{strobed, same_payload};
 ghost use Rattle.signals.specs.Stream.{sample, clear_bit, handshake};
 ghost use Rattle.stream_checker.specs.Rules.{stalled, carries_counter, counter, after_counter};
 ghost use Rattle.signals.specs.Tables.{first_applying};
-ghost use Rattle.stream_checker.specs.Step.{before, start, breaks_seq_after, rules_of, seq_after, rule_in, next};
+ghost use Rattle.stream_checker.specs.Step.{before, start, breaks_seq_after, rules_of, rule_in, next};
 
 use crate::Rule;
+use signals::Payload;
 use signals::stream::{clear, ready, strb, valid};
 
 // The counter is the low 16 bits of data: there are so many counters, and 0 follows the last.
-const COUNTERS: u32 = 65536;
-
-// What is found in one cycle.
-#[derive(Clone, Copy)]
-pub(crate) enum Breach {
-    Nothing,
-    Of(Rule),
-}
+pub const COUNTERS: u32 = 65536;
 
 // What the next cycle is judged by.
-#[derive(Clone, Copy)]
+#[derive(Clone, Copy, Debug, PartialEq, Eq)]
 pub struct Watch {
     // The cycle before.
     pub control: u8,
     pub data: u32,
-    // Whether a counter was carried since the last clear, where rule seq is judged, and then the counter that is due next.
-    pub counted: bool,
-    pub due: u32,
+    // The counter that is due next, if one was carried since the last clear, where rule seq is judged.
+    pub due: Option<u32>,
 }
 
 pub(crate) fn handshake(control: u8) -> bool
@@ -57,6 +50,16 @@ pub fn stalled(control: u8) -> bool
     !clear(control) & (valid(control) & !ready(control))
 }
 
+// What a cycle shows.
+fn payload(control: u8, data: u32) -> Payload
+    ensures { result ≡ (sample control «data»).payload }
+{
+    Payload {
+        data,
+        strb: strb(control),
+    }
+}
+
 // The counter that follows the one in a word.
 fn due_after(data: u32) -> u32
     ensures { result ≡ after_counter (counter (sample 0 «data»)) }
@@ -64,6 +67,7 @@ fn due_after(data: u32) -> u32
     (data % COUNTERS + 1) % COUNTERS
 }
 
+// A cycle's two entries go through these apart, as a trace lends them: a struct of both would be made for each call and taken apart in it.
 impl Watch {
     // Before the first cycle nothing is stalled and no counter was carried.
     pub fn start() -> Watch
@@ -72,8 +76,7 @@ impl Watch {
         Watch {
             control: 0,
             data: 0,
-            counted: false,
-            due: 0,
+            due: None,
         }
     }
 
@@ -81,63 +84,34 @@ impl Watch {
     fn same_payload(self, control: u8, data: u32) -> bool
         ensures { result ≡ same_payload (sample control «data»).payload (before self).payload }
     {
-        let strobes = strb(control);
-        let before = self.data;
-        let strobes_before = strb(self.control);
-        (data == before) & (strobes == strobes_before)
+        payload(control, data) == payload(self.control, self.data)
     }
 
     // Whether a cycle breaks rule seq.
     fn breaks_seq(self, control: u8, data: u32) -> bool
         ensures { result ≡ breaks_seq_after self (sample control «data») }
     {
-        carries_counter(control) & (self.counted & (data % COUNTERS != self.due))
-    }
-
-    // Rule seq alone, where it is switched on.
-    fn seq_breach(self, control: u8, data: u32, seq: bool) -> Breach
-        ensures { rule_in result ≡ first_applying (seq_after self (sample control «data») seq) }
-    {
-        if seq {
-            if self.breaks_seq(control, data) {
-                Breach::Of(Rule::Seq)
-            } else {
-                Breach::Nothing
-            }
-        } else {
-            Breach::Nothing
+        match self.due {
+            Some(due) => carries_counter(control) & (data % COUNTERS != due),
+            None => false,
         }
     }
 
     // The first rule in order that the next cycle breaks, where it is judged.
-    pub(crate) fn breach(self, control: u8, data: u32, seq: bool) -> Breach
+    pub(crate) fn breach(self, control: u8, data: u32, seq: bool) -> Option<Rule>
         ensures { rule_in result ≡ first_applying (rules_of self (sample control «data») seq) }
     {
-        if stalled(self.control) {
-            let held = valid(control);
-            let same = self.same_payload(control, data);
-            if held {
-                if same {
-                    self.seq_breach(control, data, seq)
-                } else {
-                    Breach::Of(Rule::Stable)
-                }
-            } else {
-                Breach::Of(Rule::Held)
-            }
+        // Of every cycle, with no branch: with one the loop takes a third longer where rule seq is judged.
+        let out_of_seq = seq & self.breaks_seq(control, data);
+        let stalled = stalled(self.control);
+        if stalled && !valid(control) {
+            Some(Rule::Held)
+        } else if stalled && !self.same_payload(control, data) {
+            Some(Rule::Stable)
+        } else if out_of_seq {
+            Some(Rule::Seq)
         } else {
-            self.seq_breach(control, data, seq)
-        }
-    }
-
-    // The counter that is due after the next cycle.
-    fn due_next(self, control: u8, data: u32) -> u32
-        ensures { result ≡ (next true self control «data»).due }
-    {
-        if carries_counter(control) {
-            due_after(data)
-        } else {
-            self.due
+            None
         }
     }
 
@@ -149,8 +123,7 @@ impl Watch {
         Watch {
             control,
             data,
-            counted: false,
-            due: self.due,
+            due: None,
         }
     }
 
@@ -159,19 +132,11 @@ impl Watch {
         requires { clear_bit control ≡ false }
         ensures { result ≡ next seq self control «data» }
     {
-        if seq {
-            return Watch {
-                control,
-                data,
-                counted: carries_counter(control) | self.counted,
-                due: self.due_next(control, data),
-            };
-        }
-        Watch {
-            control,
-            data,
-            counted: self.counted,
-            due: self.due,
-        }
+        let due = if seq & carries_counter(control) {
+            Some(due_after(data))
+        } else {
+            self.due
+        };
+        Watch { control, data, due }
     }
 }
