@@ -1,3 +1,4 @@
 pub mod Direction
 pub mod Meaning
+pub mod Pairs
 pub mod Watching

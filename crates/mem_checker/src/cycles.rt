@@ -1,36 +1,34 @@
-// The loop that judges a trace, for both protocols.
-ghost use Rattle.std.specs.Prelude.{◌≡◌, ◌≤◌, length};
+// The loop that judges a trace, for any protocol.
+ghost use Rattle.std.specs.Prelude.{◌≡◌, ◌≤◌, length, Ok};
 ghost use Rattle.signals.specs.Refusals.{max_cycles};
 ghost use Rattle.signals.specs.Memory.{access_at};
 ghost use Rattle.mem_checker.specs.Written.{written};
-ghost use Rattle.mem_checker.specs.Step.{protocol_of, unrefused, broken_at};
+ghost use Rattle.mem_checker.specs.Step.{unrefused, broken_at};
 
-use crate::watch::{Watch, breaks_align, own_rule};
-use crate::{Checked, Rule, Verdict};
+use crate::protocol::Protocol;
+use crate::watch::{Watch, breaks_align};
+use crate::{Checked, Rule};
+use signals::Breach;
 
 // The verdict on a trace of legal length, which stops at the first breach.
-pub(crate) fn check(control: &[u8], add: &[u32], decoupled: bool) -> Checked
+pub(crate) fn judge<P: Protocol>(control: &[u8], add: &[u32]) -> Checked
     requires { (length add.now ≡ length control.now) × (length control.now ≤ max_cycles) }
-    ensures { written result ≡ unrefused (protocol_of decoupled) (access_at control.now add.now) (length control.now) }
+    ensures { written (Ok result) ≡ unrefused P.named (access_at control.now add.now) (length control.now) }
 {
-    let mut w = Watch::start();
-    let mut i = 0;
-    while i < control.len() {
-        let c = control[i];
-        let a = add[i];
-        if w.breaks_own(c, decoupled) {
-            return broken(own_rule(decoupled), i as u32, w.handshakes);
+    let mut watch = Watch::start();
+    for (cycle, (control, add)) in control.iter().zip(add).enumerate() {
+        if P::breaks(watch, *control) {
+            return broken(P::RULE, cycle as u32, watch.handshakes);
         }
-        if breaks_align(c, a) {
-            return broken(Rule::Align, i as u32, w.handshakes);
+        if breaks_align(*control, *add) {
+            return broken(Rule::Align, cycle as u32, watch.handshakes);
         }
-        w = w.next(c);
-        i += 1;
+        watch = watch.next(*control);
     }
     Checked {
-        verdict: Verdict::Clean,
-        handshakes: w.handshakes,
-        open: !decoupled & w.reading,
+        breach: None,
+        handshakes: watch.handshakes,
+        open: P::READS_STAY_OPEN & watch.reading,
     }
 }
 
@@ -38,8 +36,8 @@ fn broken(rule: Rule, cycle: u32, handshakes: u32) -> Checked
     ensures { result ≡ broken_at rule cycle handshakes }
 {
     Checked {
-        verdict: Verdict::Broken(rule, cycle),
-        handshakes: handshakes,
+        breach: Some(Breach { rule, cycle }),
+        handshakes,
         open: false,
     }
 }

@@ -4,18 +4,20 @@
 #![tactic(auto)]
 
 mod watch; // watch.rt: what the rules remember of the cycles before
-mod cycles; // cycles.rt: the loop that judges a trace, for both protocols
+mod protocol; // protocol.rt: what each protocol has for itself
+mod cycles; // cycles.rt: the loop that judges a trace, for any protocol
 
-ghost use Rattle.std.specs.Prelude.{◌≡◌, false, length};
+ghost use Rattle.std.specs.Prelude.{◌≡◌, length};
+ghost use Rattle.signals.specs.Numbers.{rule_number};
 ghost use Rattle.mem_checker.specs.Rules.{mem, mem_decoupled};
 ghost use Rattle.mem_checker.specs.Verdicts.{check_mem};
-ghost use Rattle.mem_checker.specs.Written.{written};
-ghost use Rattle.mem_checker.specs.Step.{protocol_of};
+ghost use Rattle.mem_checker.specs.Written.{rule_name, written};
 
-use signals::{MAX_CYCLES, Refusal};
+use protocol::{Mem, MemDecoupled, Protocol};
+use signals::{ALIGN, Breach, MAX_CYCLES, Refusal};
 
 // The rules, by what each is about. `specs/Written.antt` gives each its name in document 01.
-#[derive(Clone, Copy)]
+#[derive(Clone, Copy, Debug, PartialEq, Eq)]
 pub enum Rule {
     // HWPE-Mem rule 2: a read is answered in the next cycle.
     Response,
@@ -25,55 +27,76 @@ pub enum Rule {
     Align,
 }
 
-#[derive(Clone, Copy)]
-pub enum Verdict {
-    Clean,
-    Broken(Rule, u32),
-    Refused(Refusal),
+// The rule's number where a call answers no enum.
+impl From<Rule> for u8 {
+    ghost from_gives = { λ rule number. number ≡ rule_number (rule_name rule) };
+
+    fn from(rule: Rule) -> u8 {
+        match rule {
+            Rule::Response => 2,
+            Rule::Direction => 4,
+            Rule::Align => ALIGN,
+        }
+    }
 }
 
-// A verdict, with the handshakes before the broken cycle, or in all cycles when clean, and whether a read is still open.
+impl Rule {
+    // The same by a name of its own.
+    pub fn number(self) -> u8
+        ensures { result ≡ rule_number (rule_name self) }
+    {
+        u8::from(self)
+    }
+}
+
+// The first breach, if there is one, with the handshakes before its cycle, or in all cycles when clean, and whether a read is still open.
 #[derive(Clone, Copy)]
 pub struct Checked {
-    pub verdict: Verdict,
+    pub breach: Option<Breach<Rule>>,
     pub handshakes: u32,
     pub open: bool,
 }
 
-// The verdict on an HWPE-Mem trace, for any four sequences.
-pub fn check_mem(control: &[u8], add: &[u32], data: &[u32], r_data: &[u32]) -> Checked
+// The verdict on an HWPE-Mem trace, for any four sequences: side by side, as the C interface lends them.
+pub fn check_mem(
+    control: &[u8],
+    add: &[u32],
+    data: &[u32],
+    r_data: &[u32],
+) -> Result<Checked, Refusal>
     ensures { written result ≡ check_mem mem control.now add.now (length «data».now) (length r_data.now) }
 {
-    check_lent(control, add, data, r_data, false)
+    check::<Mem>(control, add, data, r_data)
 }
 
 // The verdict on an HWPE-MemDecoupled trace, for any four sequences.
-pub fn check_mem_decoupled(control: &[u8], add: &[u32], data: &[u32], r_data: &[u32]) -> Checked
+pub fn check_mem_decoupled(
+    control: &[u8],
+    add: &[u32],
+    data: &[u32],
+    r_data: &[u32],
+) -> Result<Checked, Refusal>
     ensures { written result ≡ check_mem mem_decoupled control.now add.now (length «data».now) (length r_data.now) }
 {
-    check_lent(control, add, data, r_data, true)
+    check::<MemDecoupled>(control, add, data, r_data)
 }
 
 // The refusals 1 and 3, then the verdict.
-fn check_lent(control: &[u8], add: &[u32], data: &[u32], r_data: &[u32], decoupled: bool) -> Checked
-    ensures { written result ≡ check_mem (protocol_of decoupled) control.now add.now (length «data».now) (length r_data.now) }
+#[tactic(auto, unfolding(crate::specs::Verdicts::check_mem))]
+fn check<P: Protocol>(
+    control: &[u8],
+    add: &[u32],
+    data: &[u32],
+    r_data: &[u32],
+) -> Result<Checked, Refusal>
+    ensures { written result ≡ check_mem P.named control.now add.now (length «data».now) (length r_data.now) }
 {
     let cycles = control.len();
-    if (add.len() == cycles) & ((data.len() == cycles) & (r_data.len() == cycles)) {
-        if cycles > MAX_CYCLES {
-            return refused(Refusal::TooLong);
-        }
-        return cycles::check(control, add, decoupled);
+    if (add.len() != cycles) || (data.len() != cycles) || (r_data.len() != cycles) {
+        return Err(Refusal::LengthsDiffer);
     }
-    refused(Refusal::LengthsDiffer)
-}
-
-fn refused(why: Refusal) -> Checked
-    ensures { result ≡ record { verdict = Verdict.Refused why; handshakes = 0; «open» = false } }
-{
-    Checked {
-        verdict: Verdict::Refused(why),
-        handshakes: 0,
-        open: false,
+    if cycles > MAX_CYCLES {
+        return Err(Refusal::TooLong);
     }
+    Ok(cycles::judge::<P>(control, add))
 }
