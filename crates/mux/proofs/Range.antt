@@ -13,7 +13,5 @@ pub in_range_lem : (cycles select first count : ℕ) → out_of_range cycles sel
 in_range_lem cycles select first count e =
     let w = neither (ltb 1 select || eqb count 0) (ltb cycles (first + count)) e in
     let zero = neither (ltb 1 select) (eqb count 0) w.0 in
-    (positive (eqb-false count 0 zero.1), ltb-false cycles (first + count) w.1)
-  where
-    positive : (count ≡ 0 → ⊥) → 0 < count
-    positive n = omega arith
+    let some : count ≡ 0 → ⊥ = eqb-false count 0 zero.1 in
+    (omega arith, ltb-false cycles (first + count) w.1)

@@ -3,32 +3,18 @@
 // Writes out "Fixed-select mux" of document 01. No control byte is read.
 #![tactic(auto)]
 
-ghost use Rattle.std.specs.Prelude.{◌≡◌, ◌+◌, ◌≤◌, length};
-ghost use Rattle.mux.specs.Mux.{part_at, part_of, out_of_range, muxed};
+ghost use Rattle.std.specs.Prelude.{◌≡◌};
+ghost use Rattle.mux.specs.Mux.{part_at, out_of_range, muxed};
 
 // Whether a part of a trace of so many cycles is refused. Nothing here can wrap.
 fn out_of_range(cycles: usize, select: u8, first: usize, count: usize) -> bool
     ensures { result ≡ out_of_range cycles select first count }
 {
-    if cycles < first {
-        return true;
-    }
-    if cycles - first < count {
-        return true;
-    }
-    (1 < select) | (count == 0)
+    select > 1 || count == 0 || cycles < first || cycles - first < count
 }
 
-// The part of a trace that begins at cycle first and has count cycles.
-fn part<'a>(trace: &'a [u8], first: usize, count: usize) -> &'a [u8]
-    requires { first + count ≤ length trace.now }
-    ensures { part_at result ≡ part_of trace.entry first count }
-{
-    let end = first + count;
-    &trace[first..end]
-}
-
-// That part of trace select; refused, the empty part at the start of trace 0, which no accepted call gives.
+// The part of trace select that begins at cycle first and has count cycles; refused, the empty part at the start of trace 0, which no
+// accepted call gives. It answers the part and no `Result`, since `part_at result` promises where the empty part lies.
 pub fn mux_static<'a>(
     t0: &'a [u8],
     t1: &'a [u8],
@@ -38,14 +24,9 @@ pub fn mux_static<'a>(
 ) -> &'a [u8]
     ensures { part_at result ≡ muxed t0.entry t1.entry select first count }
 {
-    if select == 0 {
-        if out_of_range(t0.len(), select, first, count) {
-            return part(t0, 0, 0);
-        }
-        return part(t0, first, count);
+    let selected = if select == 0 { t0 } else { t1 };
+    if out_of_range(selected.len(), select, first, count) {
+        return &t0[..0];
     }
-    if out_of_range(t1.len(), select, first, count) {
-        return part(t0, 0, 0);
-    }
-    part(t1, first, count)
+    &selected[first..first + count]
 }
