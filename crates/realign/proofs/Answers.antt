@@ -4,22 +4,16 @@ use Prim.Native.Nat.{ℕ, ◌%◌, ◌<◌, ◌≤◌}
 use native.Mathlib.Omega.{arith}
 use mathlib.Core.Bool.{true}
 use mathlib.Core.List.{List, ◌++◌}
-use mathlib.Core.Option.{none, some}
-use mathlib.Core.Path.{◌≡◌, sym, ◌∙◌, ap, ap₂}
-use lib.Dec.{ltb}
+use mathlib.Core.Option.{none}
+use mathlib.Core.Path.{◌≡◌, sym, ◌∙◌, ap}
 use lib.ListN.{length, drop}
-use borrow.Author.Tests.{eqb-true, ltb-false, le-ltb, not-false}
+use borrow.Author.Tests.{eqb-true, ltb-false, not-false}
+use Rattle.std.specs.Prelude.{Ok}
 use Rattle.signals.specs.Tables.{first_applying, NoneIn}
-use Rattle.signals.specs.Refusals.{number_of}
 use Rattle.signals.specs.Sequences.{entries_below}
-use Rattle.signals.specs.declared.Outcome.TheVariants.{Accepted, Refused}
-use Rattle.signals.specs.declared.Refusal.{Refusal}
-use Rattle.signals.proofs.Bools.{neither}
 use Rattle.signals.proofs.Tables.{none_keeps}
 use Rattle.signals.proofs.Writing.{length_entries}
-use Rattle.strbgen.specs.declared.Plan.{Plan}
-use Rattle.strbgen.specs.Plan.{max_packets, word_count, is_plan, Planned}
-use Rattle.strbgen.specs.Plan as ofPlan
+use Rattle.strbgen.specs.Plan.{max_packets, word_count, is_plan}
 use Rattle.strbgen.proofs.Given.{plan_given}
 use Rattle.realign.specs.From.{word_from}
 use Rattle.realign.specs.Sink.{words_of, Sinks}
@@ -52,7 +46,7 @@ module _ (address n : ℕ) (words strobes before : List ℕ) where
   pub sourced :
       first_applying (ofSource.grounds (address % 4) n words strobes (length before)) ≡ none →
       (left : List ℕ) → left ≡ entries_below (word_from (address % 4) words) n ++ drop n before →
-      Sources address n words strobes before left (record { outcome = Accepted; count = n })
+      Sources address n words strobes before left (Ok n)
   sourced e left h =
       let packets = source_packets (address % 4) n strobes (remainder_less address) (source_plan (address % 4) n words strobes _ e) words (source_count (address % 4) n words strobes _ e) in
       record {
@@ -61,53 +55,7 @@ module _ (address n : ℕ) (words strobes before : List ℕ) where
         written = rw e (h ∙ ap (λ made. made ++ drop n before) packets);
       }
 
-  pub not_sourced :
-      (why : Refusal) → first_applying (ofSource.grounds (address % 4) n words strobes (length before)) ≡ some (number_of why) →
-      Sources address n words strobes before before (record { outcome = Refused why; count = 0 })
-  not_sourced why e = record { refusal = rw e; count = rw e; written = rw e }
-
 -- a sink that is accepted
-module _ (m : ℕ) (packets : List ℕ) (wordRoom strobeRoom : ℕ) (e : first_applying (ofSink.grounds m packets wordRoom strobeRoom) ≡ none) where
-  sink_passed : NoneIn (ofSink.grounds m packets wordRoom strobeRoom)
-  sink_passed = none_keeps (ofSink.grounds m packets wordRoom strobeRoom) e
-
-  pub sink_few : length packets ≤ max_packets
-  sink_few = ltb-false max_packets (length packets) sink_passed.0
-
-  pub word_room : word_count m (length packets) ≤ wordRoom
-  word_room =
-      ltb-false wordRoom (word_count m (length packets))
-      (neither (ltb wordRoom (word_count m (length packets))) (ltb strobeRoom (word_count m (length packets))) sink_passed.1.0).0
-
-  pub strobe_room : word_count m (length packets) ≤ strobeRoom
-  strobe_room =
-      ltb-false strobeRoom (word_count m (length packets))
-      (neither (ltb wordRoom (word_count m (length packets))) (ltb strobeRoom (word_count m (length packets))) sink_passed.1.0).1
-
--- the plan that is written for it
-plan_words :
-    (address n : ℕ) (before left : List ℕ) (plan : Plan) → Planned address n before left plan →
-    n ≤ max_packets → word_count (address % 4) n ≤ length before → plan.words ≡ word_count (address % 4) n
-plan_words address n before left plan p few room =
-    p.words ∙ simp (le-ltb max_packets n few, le-ltb (length before) (word_count (address % 4) n) room)
-
-module _ (address : ℕ) (packets words strobes : List ℕ) where
-  pub sunk :
-      first_applying (ofSink.grounds (address % 4) packets (length words) (length strobes)) ≡ none →
-      (count : ℕ) → count ≡ word_count (address % 4) (length packets) →
-      (wordsLeft : List ℕ) → wordsLeft ≡ words_of (address % 4) packets ++ drop count words →
-      (strobesLeft : List ℕ) (plan : Plan) → Planned address (length packets) strobes strobesLeft plan →
-      Sinks address packets words wordsLeft strobes strobesLeft (record { outcome = Accepted; count = count })
-  sunk e count f wordsLeft g strobesLeft plan p =
-      let planned = plan_words address (length packets) strobes strobesLeft plan p (sink_few (address % 4) packets _ _ e) (strobe_room (address % 4) packets _ _ e) in
-      record {
-        refusal = rw e;
-        count = rw e (f ∙ sym (length_entries _ (word_count (address % 4) (length packets))));
-        words_written = rw e g;
-        strobes_written = rw e (p.written ∙ ap₂ (λ a b. ofPlan.strobes (address % 4) a ++ drop b strobes) planned (planned ∙ sym f));
-      }
-
-  pub not_sunk :
-      (why : Refusal) → first_applying (ofSink.grounds (address % 4) packets (length words) (length strobes)) ≡ some (number_of why) →
-      Sinks address packets words words strobes strobes (record { outcome = Refused why; count = 0 })
-  not_sunk why e = record { refusal = rw e; count = rw e; words_written = rw e; strobes_written = rw e }
+pub sink_few : (m : ℕ) (packets : List ℕ) (wordRoom strobeRoom : ℕ) →
+    first_applying (ofSink.grounds m packets wordRoom strobeRoom) ≡ none → length packets ≤ max_packets
+sink_few m packets wordRoom strobeRoom e = ltb-false max_packets (length packets) (none_keeps (ofSink.grounds m packets wordRoom strobeRoom) e).0

@@ -1,11 +1,11 @@
 -- Request T-10: what `realign_sink` answers, and what it leaves in the lent buffers. m is the byte address's remainder by 4.
 -- Assumes nothing.
-use Rattle.std.specs.Prelude.{ℕ, ◌-◌, ◌%◌, ◌||◌, List, [], ◌∷◌, ◌++◌, ◌≡◌, ltb, length, drop}
+use Rattle.std.specs.Prelude.{ℕ, ◌-◌, ◌%◌, ◌||◌, List, [], ◌∷◌, ◌++◌, ◌≡◌, ltb, length, drop, Result}
 use Rattle.std.proofs.Math.Option.{Option, none, some}
 use Rattle.signals.specs.Tables.{Row, ◌⇐◌, first_applying}
 use Rattle.signals.specs.Refusals.{refusal_of}
-use Rattle.strbgen.specs.Plan.{max_packets, word_count, strobes}
-use Rattle.realign.specs.declared.Realigned.{Realigned}
+use Rattle.signals.specs.declared.Refusal.{Refusal}
+use Rattle.strbgen.specs.Plan.{max_packets, word_count, strobes, counted}
 use Rattle.realign.specs.Bytes.{bytes_of, nulls, cut}
 
 -- the packets' bytes, with m null bytes in front and null bytes up to a word at the end
@@ -44,9 +44,9 @@ sink address packets wordRoom strobeRoom =
     answer_by (first_applying (grounds (address % 4) packets wordRoom strobeRoom)) (address % 4) packets
 
 -- what a call answers, and what its buffers hold afterwards: what was made from their start, and past it what they had before
-pub record Sinks (address : ℕ) (packets words wordsLeft strobes strobesLeft : List ℕ) (r : Realigned) : Type 0 where
-  pub refusal : refusal_of r.outcome ≡ (sink address packets (length words) (length strobes)).refusal
-  pub count : r.count ≡ length (sink address packets (length words) (length strobes)).words
-  pub words_written : wordsLeft ≡ (sink address packets (length words) (length strobes)).words ++ drop r.count words
+pub record Sinks (address : ℕ) (packets words wordsLeft strobes strobesLeft : List ℕ) (answered : Result ℕ Refusal) : Type 0 where
+  pub refusal : refusal_of answered ≡ (sink address packets (length words) (length strobes)).refusal
+  pub count : counted answered ≡ length (sink address packets (length words) (length strobes)).words
+  pub words_written : wordsLeft ≡ (sink address packets (length words) (length strobes)).words ++ drop (counted answered) words
   pub strobes_written :
-      strobesLeft ≡ (sink address packets (length words) (length strobes)).strobes ++ drop r.count strobes
+      strobesLeft ≡ (sink address packets (length words) (length strobes)).strobes ++ drop (counted answered) strobes

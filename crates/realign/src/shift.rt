@@ -27,12 +27,11 @@ pub(crate) fn move_up(before: u32, bytes: u32, words: &[u32], out: &mut [u32]) -
 {
     let bits = 8 * bytes;
     let mut previous = before;
-    let mut i = 0;
-    while i < words.len() {
+    // By index: over `enumerate` this is no vector code, and a proof knows nothing of what a `zip` with `iter_mut` leaves.
+    for i in 0..words.len() {
         let word = words[i];
         out[i] = joined(left_over(previous, bits), word, bits);
         previous = word;
-        i += 1;
     }
     left_over(previous, bits)
 }

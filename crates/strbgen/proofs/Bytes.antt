@@ -7,12 +7,13 @@ use mathlib.Core.List.{List, [], ◌∷◌, ◌++◌}
 use mathlib.Core.Logic.{⊎_elim}
 use mathlib.Core.Path.{◌≡◌, refl, sym, ◌∙◌}
 use lib.Dec.{eqb, ltb, leb}
-use borrow.Author.Tests.{lt-ltb, le-ltb, le-leb, eq-eqb, ne_eqb, eqb-true, eqb-false, ltb-true, ltb-false}
+use borrow.Author.Tests.{lt-ltb, le-ltb, le-leb, ne_eqb, eqb-true, eqb-false, ltb-true, ltb-false}
 use Rattle.signals.specs.Payloads.{strobed}
 use Rattle.signals.specs.Sequences.{entries_below}
 use Rattle.signals.proofs.Bools.{either}
 use Rattle.strbgen.specs.Plan.{word_count, first_strobe, last_strobe, strobe_at, strobes}
 use Rattle.strbgen.specs.Bytes.{bytes_in, bytes_named, ExactBytes}
+use Rattle.strbgen.proofs.Given as given
 use Rattle.strbgen.proofs.Table.{first_and_last, first_strobed, last_strobed, full_strobed}
 
 -- the bytes of a plan that has one more word
@@ -30,10 +31,10 @@ module _ (m words : ℕ) where
 
   -- a word that is neither first nor last is full
   between : (k : ℕ) → suc (suc k) < words → strobe_at m words (suc k) ≡ 15
-  between k h = simp (ne_eqb (suc k) 0 (λ e. omega arith), ne_eqb (suc k + 1) words (λ e. omega arith))
+  between k h = given.between m words (suc k) (omega arith) (omega arith)
 
   last_word : (k : ℕ) → suc (suc k) ≡ words → strobe_at m words (suc k) ≡ last_strobe m
-  last_word k e = simp (ne_eqb (suc k) 0 (λ z. omega arith), eq-eqb (suc k + 1) words (omega arith))
+  last_word k e = given.last_word m words (suc k) (omega arith) (omega arith)
 
   -- up to the last word: the first word, and k full ones
   before_last : (k : ℕ) → suc k < words → bytes_named (below (suc k)) ≡ bytes_in (first_strobe m) + 4 * k

@@ -1,3 +1,4 @@
 pub mod Table
 pub mod Given
+pub mod Filled
 pub mod Bytes

@@ -3,32 +3,17 @@
 use Prim.Native.Nat.{◌-◌, ◌%◌, ◌<◌}
 use native.Mathlib.Omega.{arith}
 use mathlib.Core.Path.{◌∙◌}
-use lib.ListN.{length, length-drop}
-use Rattle.realign.proofs.Padded.{count_few, count_exact}
-use Rattle.realign.proofs.Leading.{tail_whole, tail_writes}
+use lib.ListN.{length}
+use Rattle.realign.proofs.Padded.{count_exact}
+use Rattle.realign.proofs.Answers.{remainder_less}
+use Rattle.realign.proofs.Leading.{tail_writes}
 use Rattle.realign.proofs.take.Goals as goal
 
-pub overflow_sub-lead : goal.overflow_sub-lead
-overflow_sub-lead c =
-    let few = (count_few c.args.m c.args.n).0 in
-    omega arith
-
-pub bounds-words-0 : goal.bounds-words-0
-bounds-words-0 c =
-    let few = (count_few c.args.m c.args.n).0 in
-    omega arith
-
-pub move_up-requires : goal.move_up-requires
-move_up-requires c =
-    let a = c.args in
-    let lead = length a.words.now - a.n in
-    (omega arith, rw (tail_whole lead a.words.now, length-drop lead a.words.now) (omega arith))
-
-pub returns : goal.returns
-returns c =
+pub returns-then-n-gt0 : goal.returns-then-n-gt0
+returns-then-n-gt0 c =
     let a = c.args in
     let lead = length a.words.now - a.n in
     let some : 0 < a.n = omega arith in
-    let exact = count_exact a.m a.n c.requires.0 some in
+    let exact = count_exact (a.address % 4) a.n (remainder_less a.address) some in
     c.move_up.ensures.1
-    ∙ tail_writes a.m ((4 - a.m) % 4) lead a.words.now (omega arith) c.requires.0 (omega arith) a.n a.out.now (omega arith)
+    ∙ tail_writes (a.address % 4) ((4 - a.address % 4) % 4) lead a.words.now (omega arith) (remainder_less a.address) (omega arith) a.n a.out.now (omega arith)

@@ -1,13 +1,11 @@
--- `strbgen::is_plan` meets its contract. The loop's invariant: whether the strobes passed are the plan's, the first among them.
+-- `strbgen::is_plan` meets its contract. The loop's invariant: whether the first, the last and those passed are the plan's.
 -- Assumes nothing.
-use Prim.Native.Nat.{◌-◌, ◌<◌, ◌≤◌}
 use mathlib.Core.Path.{◌≡◌}
+use mathlib.Core.Bool.{◌&&◌}
+use lib.Dec.{eqb}
+use lib.ListN.{get_or}
 use Rattle.signals.specs.Sequences.{every_below}
-use Rattle.strbgen.proofs.Given.{is_planned}
 use Rattle.strbgen.proofs.is_plan.Given as goal
 
-abbrev pub invariant-loop-i : goal.invariant-loop-i
-invariant-loop-i l = (0 < l.i) × (l.i ≤ l.words) × (l.same ≡ every_below (is_planned l.m l.words l.given) l.i)
-
-abbrev pub decreases-loop-i : goal.decreases-loop-i
-decreases-loop-i l = l.words - l.i
+abbrev pub invariant-loop-strobe : goal.invariant-loop-strobe
+invariant-loop-strobe l = l.same ≡ (l.initial.same && every_below (λ i. eqb (get_or l.between i 0) 15) l.strobe-index)

@@ -4,16 +4,13 @@ use Prim.Native.Nat.{◌*◌, ◌-◌, ◌/◌, ◌^◌}
 use native.Mathlib.Omega.{arith}
 use native.Mathlib.Numerals.{add-one}
 use mathlib.Core.List.{◌∷◌, ◌++◌}
-use mathlib.Core.Path.{◌≡◌, refl, sym, ◌∙◌, ap}
-use lib.ListN.{length, get_or, drop, length-set}
+use mathlib.Core.Path.{◌≡◌, sym, ◌∙◌, ap}
+use lib.ListN.{length, get_or, drop}
 use Rattle.signals.specs.Sequences.{entries_below}
 use Rattle.signals.proofs.Writing.{writes_next}
 use Rattle.realign.specs.From.{word_from}
 use Rattle.realign.proofs.Joining.{word_joins, word_left}
 use Rattle.realign.proofs.shift.move_up.Goals as goal
-
-pub loop-i-init : goal.loop-i-init
-loop-i-init c = (omega arith, refl, refl, refl)
 
 pub loop-i-preserved : goal.loop-i-preserved
 loop-i-preserved c =
@@ -21,11 +18,9 @@ loop-i-preserved c =
     let a = c.args in
     let row = a.before ∷ a.words.now in
     let left = c.left_over in
-    let over = left.ensures.0 ∙ ap (λ word. word / 2 ^ (32 - 8 * a.bytes)) l.invariant.3 in
+    let over = left.ensures.0 ∙ ap (λ word. word / 2 ^ (32 - 8 * a.bytes)) l.invariant.1 in
     let made = c.joined.ensures ∙ word_joins a.bytes row c.requires.0 l.i left.result over left.ensures.1 in (
-      omega arith,
-      simp length-set (omega arith),
-      writes_next _ l.i _ _ (omega arith) l.invariant.2 _ made,
+      writes_next _ l.i _ _ (omega arith) l.invariant.0 _ made,
       ap (λ k. get_or row k 0) (sym (add-one l.i)),
     )
 
@@ -36,7 +31,7 @@ returns c =
     let row = a.before ∷ a.words.now in
     let e : l.i ≡ length a.words.now = omega arith in
     let left = c.left_over-2 in
-    let over = left.ensures.0 ∙ ap (λ word. word / 2 ^ (32 - 8 * a.bytes)) l.invariant.3 in (
+    let over = left.ensures.0 ∙ ap (λ word. word / 2 ^ (32 - 8 * a.bytes)) l.invariant.1 in (
       word_left a.bytes row c.requires.0 l.i left.result over left.ensures.1 (omega arith) ∙ ap (word_from (4 - a.bytes) row) e,
-      l.invariant.2 ∙ ap (λ n. entries_below (word_from (4 - a.bytes) row) n ++ drop n a.out.now) e,
+      l.invariant.0 ∙ ap (λ n. entries_below (word_from (4 - a.bytes) row) n ++ drop n a.out.now) e,
     )
