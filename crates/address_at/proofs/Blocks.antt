@@ -1,32 +1,19 @@
--- A search block by block: what is found in a block is found in the whole, and what is not is looked for behind it. Assumes nothing.
-use Prim.Native.Nat.{ℕ, ◌+◌, ◌-◌}
-use native.Mathlib.Omega.{arith}
-use mathlib.Core.Bool.{Bool, true, false, ◌||◌}
-use mathlib.Core.List.{List, [], ◌∷◌, ◌++◌}
-use mathlib.Core.Path.{◌≡◌, refl, sym, ◌∙◌, ap}
-use lib.ListN.{length, take, drop, length-drop, take-append-drop}
-use lib.Seq.{drop-drop, take_all}
+-- A search block by block: the blocks and what is left behind them answer for the whole. Assumes nothing.
+use Rattle.std.proofs.Common.{◌≡◌, ℕ, zero, suc, ◌+◌, ◌*◌, Bool, ◌||◌, List, take, drop, sym, refl, ap, ◌∙◌, arith}
+use Rattle.std.proofs.Math.Bool.{or_assoc}
+use Rattle.std.proofs.lemmas.List.{take-append-drop}
+use Rattle.std.proofs.lemmas.List.Folds.{list_any-append}
+use Rattle.std.specs.Simd.{first_chunks}
 use Rattle.signals.specs.Refusals.{any_of}
+use lib.Seq.{drop-drop}
 
-module _ {A : Type 0} (has : A → Bool) where
-  any_joined : (xs ys : List A) → any_of has (xs ++ ys) ≡ any_of has xs || any_of has ys
-  any_joined [] ys = refl
-  any_joined (x ∷ xs) ys = rw (any_joined xs ys) (regroups (has x))
-    where
-      regroups : (b : Bool) → b || (any_of has xs || any_of has ys) ≡ (b || any_of has xs) || any_of has ys
-      regroups true = refl
-      regroups false = refl
-
-  module _ (xs : List A) (j n : ℕ) (b : Bool) (so_far : any_of has (drop j xs) ≡ b) where
-    parted : any_of has (take n (drop j xs)) || any_of has (drop n (drop j xs)) ≡ b
-    parted = sym (any_joined (take n (drop j xs)) (drop n (drop j xs))) ∙ ap (any_of has) (take-append-drop n (drop j xs)) ∙ so_far
-
-    pub found_in_block : any_of has (take n (drop j xs)) ≡ true → true ≡ b
-    found_in_block e = rw e at parted
-
-    pub behind_block : any_of has (take n (drop j xs)) ≡ false → any_of has (drop (j + n) xs) ≡ b
-    behind_block e = sym (ap (any_of has) (drop-drop n j xs)) ∙ rw e at parted
-
-  -- the last block is all that is left
-  pub in_last_block : (xs : List A) (j : ℕ) → any_of has (take (length xs - j) (drop j xs)) ≡ any_of has (drop j xs)
-  in_last_block xs j = ap (any_of has) (take_all (length xs - j) (drop j xs) (omega (arith, length-drop j xs)))
+module _ {A : Type 0} (has : A → Bool) (n : ℕ) where
+  pub in_blocks : (k : ℕ) (xs : List A) → any_of (any_of has) (first_chunks n k xs) || any_of has (drop (k * n) xs) ≡ any_of has xs
+  in_blocks zero xs = let none : 0 * n ≡ 0 = omega arith in rw none refl
+  in_blocks (suc k) xs =
+      let one_more : suc k * n ≡ n + k * n = omega arith in
+      rw (one_more, ← drop-drop (k * n) n xs)
+      (or_assoc (any_of has (take n xs)) (any_of (any_of has) (first_chunks n k (drop n xs))) (any_of has (drop (k * n) (drop n xs)))
+      ∙ ap (λ (b : Bool). any_of has (take n xs) || b) (in_blocks k (drop n xs))
+      ∙ sym (list_any-append has (take n xs) (drop n xs))
+      ∙ ap (any_of has) (take-append-drop n xs))

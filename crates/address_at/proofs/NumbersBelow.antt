@@ -1,12 +1,6 @@
 -- One turn of the loop that lists iterations: the list grows by the number that it came to, if that is listed, and takes the place of what
 -- was there. Assumes nothing.
-use Prim.Native.Nat.{ℕ, zero, suc, ◌+◌, ◌<◌, ◌≤◌}
-use native.Mathlib.Numerals.{add-one}
-use native.Mathlib.Omega.{arith}
-use mathlib.Core.Bool.{Bool, true, false, cond}
-use mathlib.Core.List.{List, [], ◌∷◌, ◌++◌, append-nil}
-use mathlib.Core.Path.{◌≡◌, sym}
-use lib.ListN.{length, drop, set, length-append}
+use Rattle.std.proofs.Common.{◌≡◌, ℕ, zero, suc, ◌+◌, ◌<◌, ◌≤◌, Bool, true, false, cond, List, [], ◌∷◌, ◌++◌, length, drop, set, sym, append-nil, add-one, arith, length-append}
 use Rattle.signals.proofs.Writing.{writes_one}
 use Rattle.address_at.specs.Overlap.{numbers_below}
 
@@ -19,17 +13,18 @@ listed_fit has (suc n) = simp length-append (omega (arith, listed_fit has n, at_
     at_most_one true = omega arith
     at_most_one false = omega arith
 
-module _ (has : ℕ → Bool) (i : ℕ) (before out : List ℕ) (count : ℕ) where
-  abbrev made : List ℕ
-  made = numbers_below has i
+module _
+    (has : ℕ → Bool) (i : ℕ) (before out : List ℕ) (count : ℕ) (size : count ≡ length (numbers_below has i))
+    (held : out ≡ numbers_below has i ++ drop count before)
+  where
+    pub lists :
+        count < length before → has i ≡ true →
+        (count + 1 ≡ length (numbers_below has (i + 1)))
+        × (set out count i ≡ numbers_below has (i + 1) ++ drop (count + 1) before)
+    lists h e =
+        (rw (add-one i, e) (simp length-append (omega arith)), rw (writes_one (numbers_below has i) count before out (sym size) h held i, add-one i, e))
 
-  pub lists_on :
-      count ≡ length made → count < length before → out ≡ made ++ drop count before →
-      (listed : Bool) → listed ≡ has i →
-      (more : ℕ) → more ≡ cond listed (count + 1) count →
-      (left : List ℕ) → left ≡ cond listed (set out count i) out →
-      (more ≡ length (numbers_below has (i + 1))) × (left ≡ numbers_below has (i + 1) ++ drop more before)
-  lists_on size h e true b more f left g =
-      (rw (f, add-one i, sym b) (simp length-append (omega arith)), rw (g, f, writes_one made count before out (sym size) h e i, add-one i, sym b))
-  lists_on size h e false b more f left g =
-      (rw (f, add-one i, sym b, append-nil) size, rw (g, f, add-one i, sym b, append-nil) e)
+    pub passes :
+        has i ≡ false →
+        (count ≡ length (numbers_below has (i + 1))) × (out ≡ numbers_below has (i + 1) ++ drop count before)
+    passes e = (rw (add-one i, e, append-nil) size, rw (add-one i, e, append-nil) held)

@@ -1,12 +1,12 @@
 -- Request T-14: what `address_at` answers. Assumes nothing.
-use Rattle.std.specs.Prelude.{ℕ, List, [], ◌∷◌, leb}
+use Rattle.std.specs.Prelude.{ℕ, List, [], ◌∷◌, Result, Ok, Err, leb}
 use Rattle.std.proofs.Math.Option.{Option, none, some}
 use Rattle.signals.specs.Tables.{Row, ◌⇐◌, first_applying}
-use Rattle.signals.specs.Refusals.{refusal_of}
+use Rattle.signals.specs.Refusals.{number_of}
+use Rattle.signals.specs.declared.Refusal.{Refusal}
 use Rattle.addressgen.specs.declared.Settings.{Settings}
 use Rattle.addressgen.specs.Overwriting.{overwrites_itself}
 use Rattle.addressgen.specs.Run.{bad_mask}
-use Rattle.address_at.specs.declared.Addressed.{Addressed}
 
 -- refusals 10, 11 and 8 in this order; 8: i is not below total
 abbrev pub grounds : Settings → ℕ → List (Row ℕ)
@@ -17,9 +17,10 @@ pub record Answer : Type 0 where
   pub refusal : Option ℕ
   pub address : ℕ
 
--- the code's answer in these numbers
-abbrev pub answer_of : Addressed → Answer
-answer_of given = record { refusal = refusal_of given.outcome; address = given.address }
+-- the code's answer in these numbers; refused, the address is 0
+abbrev pub answer_of : Result ℕ Refusal → Answer
+answer_of (Ok address) = record { refusal = none; address = address }
+answer_of (Err why) = record { refusal = some (number_of why); address = 0 }
 
 -- an address, unless there is a refusal: then 0
 abbrev pub answer_to : (address : ℕ) → (refusal : Option ℕ) → Answer

@@ -1,13 +1,13 @@
 -- What the engine by number means: it is the stepping definition from the start state, for every mask, and so are both calls' answers.
 -- Assumes nothing.
-use Rattle.std.specs.Prelude.{ℕ, ◌^◌, ◌<◌, List, ◌≡◌}
+use Rattle.std.specs.Prelude.{ℕ, ◌^◌, ◌<◌, List, ◌≡◌, Result}
 use Rattle.std.proofs.Math.Option.{none}
 use Rattle.signals.specs.Sequences.{entries_below}
+use Rattle.signals.specs.declared.Refusal.{Refusal}
 use Rattle.addressgen.specs.declared.Settings.{Settings}
 use Rattle.addressgen.specs.Stepping.{start, addresses}
 use Rattle.addressgen.specs.Run.{ran_of}
 use Rattle.addressgen.specs.Meaning.{Legal, address_at}
-use Rattle.address_at.specs.declared.Listed.{Listed}
 use Rattle.address_at.specs.ByNumber.{address_of}
 use Rattle.address_at.specs.AddressAt.{answer_by}
 use Rattle.address_at.specs.Overlap.{Lists}
@@ -34,5 +34,5 @@ AnswersAsStepped = (s : Settings) (i : ℕ) → Fits s → answer_by address_of 
 -- `overlap` lists what stepping through both lists
 abbrev pub ListsAsStepped : Type 0
 ListsAsStepped =
-    (first second : Settings) (before left : List ℕ) (r : Listed) → Fits first → Fits second →
+    (first second : Settings) (before left : List ℕ) (r : Result ℕ Refusal) → Fits first → Fits second →
     Lists address_of first second before left r → Lists address_at first second before left r

@@ -1,13 +1,13 @@
 -- Request T-14: what `overlap` answers, and what it leaves in the lent buffer. Assumes nothing.
-use Rattle.std.specs.Prelude.{ℕ, zero, suc, Bool, cond, ◌||◌, List, [], ◌∷◌, ◌++◌, ◌≡◌, eqb, ltb, length, drop}
+use Rattle.std.specs.Prelude.{ℕ, zero, suc, Bool, cond, ◌||◌, List, [], ◌∷◌, ◌++◌, ◌≡◌, eqb, ltb, length, drop, Result, Ok, Err}
 use Rattle.std.proofs.Math.Option.{Option, none, some}
 use Rattle.signals.specs.Tables.{Row, ◌⇐◌, first_applying}
 use Rattle.signals.specs.Refusals.{refusal_of, any_of}
 use Rattle.signals.specs.Sequences.{entries_below}
+use Rattle.signals.specs.declared.Refusal.{Refusal}
 use Rattle.addressgen.specs.declared.Settings.{Settings}
 use Rattle.addressgen.specs.Overwriting.{overwrites_itself}
 use Rattle.addressgen.specs.Run.{bad_mask}
-use Rattle.address_at.specs.declared.Listed.{Listed}
 
 -- the numbers below n that have a property, in rising order
 abbrev pub numbers_below : (has : ℕ → Bool) → ℕ → List ℕ
@@ -47,11 +47,16 @@ abbrev pub listed : (engine : Settings → ℕ → ℕ) → Settings → Setting
 listed engine first second none = shared engine first second
 listed engine first second (some number) = []
 
+-- how many are listed, by the code's answer
+abbrev pub count_of : Result ℕ Refusal → ℕ
+count_of (Ok count) = count
+count_of (Err why) = 0
+
 -- the refusal, if there is one, in document 01's numbers; how many are listed; and what the buffer holds afterwards: those, and past
 -- them what it had before
-pub record Lists (engine : Settings → ℕ → ℕ) (first second : Settings) (before left : List ℕ) (r : Listed) : Type 0 where
-  pub refusal : refusal_of r.outcome ≡ first_applying (grounds first second (length before))
-  pub count : r.count ≡ length (listed engine first second (first_applying (grounds first second (length before))))
+pub record Lists (engine : Settings → ℕ → ℕ) (first second : Settings) (before left : List ℕ) (r : Result ℕ Refusal) : Type 0 where
+  pub refusal : refusal_of r ≡ first_applying (grounds first second (length before))
+  pub count : count_of r ≡ length (listed engine first second (first_applying (grounds first second (length before))))
   pub written :
       left ≡
-      listed engine first second (first_applying (grounds first second (length before))) ++ drop r.count before
+      listed engine first second (first_applying (grounds first second (length before))) ++ drop (count_of r) before

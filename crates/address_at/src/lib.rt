@@ -3,113 +3,47 @@
 // Writes out request T-14, over the settings of `addressgen`.
 #![tactic(auto)]
 
+mod legal; // legal.rt: settings that are not refused
 mod listing; // listing.rt: the iterations whose address is among others
 mod number; // number.rt: the address by quotients and remainders
 
-ghost use Rattle.std.specs.Prelude.{◌≡◌, length};
-ghost use Rattle.signals.specs.Tables.{first_applying};
-ghost use Rattle.signals.specs.Refusals.{refusal_of};
+ghost use Rattle.std.specs.Prelude.{◌≡◌};
 ghost use Rattle.address_at.specs.ByNumber.{address_of};
 ghost use Rattle.address_at.specs.AddressAt as ofAddress;
 ghost use Rattle.address_at.specs.Overlap as ofOverlap;
 
 use addressgen::Settings;
-use listing::{list, write_all};
-use number::by_number;
-use signals::{Outcome, Refusal};
+use legal::Legal;
+use signals::Refusal;
 
 // How many iterations each generator may have whose addresses are compared.
 pub const MAX_ITERATIONS: usize = 4096;
 
-// How the call ended, and the address.
-#[derive(Clone, Copy)]
-pub struct Addressed {
-    pub outcome: Outcome,
-    pub address: u32,
-}
-
-// How the call ended, and how many iterations were listed.
-#[derive(Clone, Copy)]
-pub struct Listed {
-    pub outcome: Outcome,
-    pub count: usize,
-}
-
-// What iteration i is refused with, if it is.
-fn refusal_at(settings: Settings, i: u32) -> Outcome
-    ensures { refusal_of result ≡ first_applying (ofAddress.grounds settings i) }
-{
-    if settings.bad_mask() {
-        return Outcome::Refused(Refusal::BadMask);
-    }
-    if settings.overwrites_itself() {
-        return Outcome::Refused(Refusal::OverwritesItself);
-    }
-    if settings.total <= i {
-        return Outcome::Refused(Refusal::OutOfRange);
-    }
-    Outcome::Accepted
-}
-
 // The address of iteration i, counted from 0.
-pub fn address_at(settings: Settings, i: u32) -> Addressed
+pub fn address_at(settings: Settings, i: u32) -> Result<u32, Refusal>
     ensures { ofAddress.answer_of result ≡ ofAddress.answer_by address_of settings i }
 {
-    match refusal_at(settings, i) {
-        Outcome::Accepted => Addressed {
-            outcome: Outcome::Accepted,
-            address: by_number(settings, i),
-        },
-        Outcome::Refused(why) => Addressed {
-            outcome: Outcome::Refused(why),
-            address: 0,
-        },
+    let legal = Legal::new(settings)?;
+    if settings.total <= i {
+        return Err(Refusal::OutOfRange);
     }
+    Ok(legal.address(i))
 }
 
-// What two settings are refused with, if they are.
-fn refusal_of(first: Settings, second: Settings, room: usize) -> Outcome
-    ensures { refusal_of result ≡ first_applying (ofOverlap.grounds first second room) }
-{
-    let total = first.total as usize;
-    if (MAX_ITERATIONS < total) | (MAX_ITERATIONS < second.total as usize) {
-        return Outcome::Refused(Refusal::TooLong);
-    }
-    if first.bad_mask() {
-        return Outcome::Refused(Refusal::BadMask);
-    }
-    if first.overwrites_itself() {
-        return Outcome::Refused(Refusal::OverwritesItself);
-    }
-    if second.bad_mask() {
-        return Outcome::Refused(Refusal::BadMask);
-    }
-    if second.overwrites_itself() {
-        return Outcome::Refused(Refusal::OverwritesItself);
-    }
-    if room < total {
-        return Outcome::Refused(Refusal::OutputTooShort);
-    }
-    Outcome::Accepted
-}
-
-// Lists, in rising order, the iterations of the first generator whose address the second also yields.
-pub fn overlap(first: Settings, second: Settings, out: &mut [u32]) -> Listed
+// Lists, in rising order, the iterations of the first generator whose address the second also yields, and answers how many there are.
+pub fn overlap(first: Settings, second: Settings, out: &mut [u32]) -> Result<usize, Refusal>
     ensures { ofOverlap.Lists address_of first second out.old out.new result }
 {
-    match refusal_of(first, second, out.len()) {
-        Outcome::Accepted => {
-            let mut yielded = [0u32; MAX_ITERATIONS];
-            write_all(second, &mut yielded);
-            let count = list(first, &yielded[..second.total as usize], out);
-            Listed {
-                outcome: Outcome::Accepted,
-                count,
-            }
-        }
-        Outcome::Refused(why) => Listed {
-            outcome: Outcome::Refused(why),
-            count: 0,
-        },
+    let total = second.total as usize;
+    if first.total as usize > MAX_ITERATIONS || total > MAX_ITERATIONS {
+        return Err(Refusal::TooLong);
     }
+    let first = Legal::new(first)?;
+    let second = Legal::new(second)?;
+    if out.len() < first.settings.total as usize {
+        return Err(Refusal::OutputTooShort);
+    }
+    let mut others = [0; MAX_ITERATIONS];
+    second.write_all(&mut others[..total]);
+    Ok(first.list(&others[..total], out))
 }

@@ -1,9 +1,10 @@
 -- Document 01, "Address generator": what a run for up to n addresses answers, and what it leaves in the lent buffer.
 -- Assumes nothing.
-use Rattle.std.specs.Prelude.{◌≡◌, ℕ, ◌+◌, ◌-◌, min, Bool, false, ◌&&◌, ◌||◌, ltb, List, [], ◌∷◌, ◌++◌, length, drop, ◌==◌, nat_lt}
+use Rattle.std.specs.Prelude.{◌≡◌, ℕ, ◌+◌, ◌-◌, min, Bool, false, ◌&&◌, ◌||◌, ltb, List, [], ◌∷◌, ◌++◌, length, drop, Result, Ok, Err, ◌==◌, nat_lt}
 use Rattle.std.proofs.Math.Option.{Option, none, some}
 use Rattle.signals.specs.Tables.{Row, ◌⇐◌, first_applying}
-use Rattle.signals.specs.Refusals.{refusal_of}
+use Rattle.signals.specs.Refusals.{number_of}
+use Rattle.signals.specs.declared.Refusal.{Refusal}
 use Rattle.addressgen.specs.declared.Settings.{Settings}
 use Rattle.addressgen.specs.declared.State.{State}
 use Rattle.addressgen.specs.declared.Ran.{Ran}
@@ -29,11 +30,6 @@ pub record Answer : Type 0 where
   pub state : State
   pub done : Bool
 
--- the code's answer in these numbers
-abbrev pub answer_of : Ran → Answer
-answer_of ran =
-    record { refusal = refusal_of ran.outcome; count = ran.count; state = ran.state; done = ran.done }
-
 -- how many iterations are made when up to n are asked for: the smaller of n and total - ov
 abbrev pub iterations : Settings → State → ℕ → ℕ
 iterations s t n = min n (s.total - t.ov)
@@ -47,6 +43,11 @@ ran_for s t count =
 abbrev pub refused_run : State → ℕ → Answer
 refused_run t number = record { refusal = some number; count = 0; state = t; done = false }
 
+-- the code's answer from state t in these numbers
+abbrev pub answer_of : State → Result Ran Refusal → Answer
+answer_of t (Ok ran) = record { refusal = none; count = ran.count; state = ran.state; done = ran.done }
+answer_of t (Err why) = refused_run t (number_of why)
+
 abbrev pub answer_to : Settings → State → ℕ → (refusal : Option ℕ) → Answer
 answer_to s t n none = ran_for s t (iterations s t n)
 answer_to s t n (some number) = refused_run t number
@@ -56,7 +57,7 @@ ran_of s t n room = answer_to s t n (first_applying (grounds s t n room))
 
 -- what a run answers; its count is the rise of ov; and what its buffer holds afterwards: the addresses of so many iterations, and
 -- past them what it had before
-pub record Generated (s : Settings) (t : State) (n : ℕ) (before left : List ℕ) (ran : Ran) : Type 0 where
-  pub answer : answer_of ran ≡ ran_of s t n (length before)
-  pub rise : ran.state.ov ≡ t.ov + ran.count
-  pub written : left ≡ addresses s t ran.count ++ drop ran.count before
+pub record Generated (s : Settings) (t : State) (n : ℕ) (before left : List ℕ) (ran : Result Ran Refusal) : Type 0 where
+  pub answer : answer_of t ran ≡ ran_of s t n (length before)
+  pub rise : (answer_of t ran).state.ov ≡ t.ov + (answer_of t ran).count
+  pub written : left ≡ addresses s t (answer_of t ran).count ++ drop (answer_of t ran).count before

@@ -3,11 +3,12 @@
 // Writes out "Address generator" of document 01, with the mark for load or store and refusal 11 of request T-07.
 #![tactic(auto)]
 
-ghost use Rattle.std.specs.Prelude.{◌≡◌, ◌-◌, ◌<◌, ◌≤◌, ◌++◌, length, drop};
-ghost use Rattle.signals.specs.Refusals.{number_of};
+ghost use Rattle.std.specs.Prelude.{◌≡◌, ◌-◌, ◌<◌, ◌≤◌, length};
 ghost use Rattle.addressgen.specs.Stepping.{◌⊕◌, bit0, bit1, start, address, next, after, addresses};
 ghost use Rattle.addressgen.specs.Overwriting.{overwrites_itself};
-ghost use Rattle.addressgen.specs.Run.{bad_mask, iterations, answer_of, refused_run, Generated};
+ghost use Rattle.addressgen.specs.Run.{bad_mask, iterations, Generated};
+
+use signals::Refusal;
 
 // The largest legal mask: two bits.
 pub const MAX_MASK: u8 = 3;
@@ -43,10 +44,9 @@ pub struct State {
     pub ov: u32,
 }
 
-// How a run ended, how many iterations it made, the state afterwards, and whether every iteration is made.
+// How many iterations a run made, the state afterwards, and whether every iteration is made.
 #[derive(Clone, Copy)]
 pub struct Ran {
-    pub outcome: signals::Outcome,
     pub count: usize,
     pub state: State,
     pub done: bool,
@@ -56,7 +56,7 @@ pub struct Ran {
 fn plus(x: u32, y: u32) -> u32
     ensures { result ≡ x ⊕ y }
 {
-    std::num::wrapping_add_u32(x, y)
+    x.wrapping_add(y)
 }
 
 impl State {
@@ -95,7 +95,7 @@ impl Settings {
     {
         let bit0 = self.bit0();
         let bit1 = self.bit1();
-        (MAX_MASK < self.mask) | (bit0 & (self.d0 == 0)) | (bit0 & bit1 & (self.d1 == 0))
+        self.mask > MAX_MASK || bit0 && self.d0 == 0 || bit0 && bit1 && self.d1 == 0
     }
 
     // Whether this is a store in which a dimension that advances has stride 0. The product is exact: it has 64 bits.
@@ -105,13 +105,11 @@ impl Settings {
         let bit0 = self.bit0();
         let bit1 = self.bit1();
         let plane = self.d0 as u64 * self.d1 as u64;
-        let advances0 = (!bit0 & (1 < self.total)) | (bit0 & (1 < self.d0) & (1 < self.total));
-        let advances1 = bit0 & (self.d0 < self.total) & !(bit0 & bit1 & (self.d1 == 1));
-        let advances2 = bit0 & bit1 & (plane < self.total as u64);
+        let advances0 = self.total > 1 && (!bit0 || self.d0 > 1);
+        let advances1 = bit0 && self.total > self.d0 && !(bit1 && self.d1 == 1);
+        let advances2 = bit0 && bit1 && self.total as u64 > plane;
         self.store
-            & ((advances0 & (self.s0 == 0))
-                | (advances1 & (self.s1 == 0))
-                | (advances2 & (self.s2 == 0)))
+            && (advances0 && self.s0 == 0 || advances1 && self.s1 == 0 || advances2 && self.s2 == 0)
     }
 
     // The address that the next iteration yields.
@@ -119,14 +117,14 @@ impl Settings {
         ensures { result ≡ address self state }
     {
         let along0 = plus(self.base, state.a0);
-        if !self.bit0() {
-            return along0;
-        }
         let along1 = plus(along0, state.a1);
-        if !self.bit1() {
-            return along1;
+        if !self.bit0() {
+            along0
+        } else if !self.bit1() {
+            along1
+        } else {
+            plus(along1, state.a2)
         }
-        plus(along1, state.a2)
     }
 
     // The state after the next iteration.
@@ -134,33 +132,29 @@ impl Settings {
         requires { state.ov < self.total }
         ensures { result ≡ next self state }
     {
-        if (state.c0 < self.d0) | !self.bit0() {
-            return State {
+        let ov = state.ov + 1;
+        if state.c0 < self.d0 || !self.bit0() {
+            State {
                 a0: plus(state.a0, self.s0),
-                a1: state.a1,
-                a2: state.a2,
                 c0: plus(state.c0, 1),
-                c1: state.c1,
-                ov: state.ov + 1,
-            };
-        }
-        if (state.c1 < self.d1) | !self.bit1() {
-            return State {
+                ov,
+                ..state
+            }
+        } else if state.c1 < self.d1 || !self.bit1() {
+            State {
                 a0: 0,
                 a1: plus(state.a1, self.s1),
-                a2: state.a2,
                 c0: COUNT_FROM,
                 c1: plus(state.c1, 1),
-                ov: state.ov + 1,
-            };
-        }
-        State {
-            a0: 0,
-            a1: 0,
-            a2: plus(state.a2, self.s2),
-            c0: COUNT_FROM,
-            c1: COUNT_FROM,
-            ov: state.ov + 1,
+                ov,
+                ..state
+            }
+        } else {
+            State {
+                a2: plus(state.a2, self.s2),
+                ov,
+                ..State::start()
+            }
         }
     }
 
@@ -169,62 +163,41 @@ impl Settings {
         requires { state.ov ≤ self.total }
         ensures { result ≡ iterations self state n }
     {
-        let left = (self.total - state.ov) as usize;
-        if n < left {
-            return n;
-        }
-        left
+        n.min((self.total - state.ov) as usize)
     }
 }
 
-// Makes count iterations: writes their addresses from the buffer's start and gives the state afterwards.
-fn fill(settings: Settings, state: State, count: usize, out: &mut [u32]) -> State
-    requires { (count ≤ length out.old) × (count ≤ settings.total - state.ov) }
-    ensures { (result ≡ after settings state count) × (out.new ≡ addresses settings state count ++ drop count out.old) }
+// Makes an iteration for each word of the buffer: writes their addresses, and gives the state afterwards.
+fn fill(settings: Settings, state: State, out: &mut [u32]) -> State
+    requires { length out.old ≤ settings.total - state.ov }
+    ensures { (result ≡ after settings state (length out.old)) × (out.new ≡ addresses settings state (length out.old)) }
 {
     let mut current = state;
-    let mut i = 0;
-    while i < count {
-        out[i] = settings.address(current);
+    for word in out.iter_mut() {
+        *word = settings.address(current);
         current = settings.next(current);
-        i += 1;
     }
     current
 }
 
-fn refused(state: State, why: signals::Refusal) -> Ran
-    ensures { answer_of result ≡ refused_run state (number_of why) }
-{
-    Ran {
-        outcome: signals::Outcome::Refused(why),
-        count: 0,
-        state: state,
-        done: false,
-    }
-}
-
 // Makes up to n iterations and writes the address that each yields.
-pub fn run(settings: Settings, state: State, n: usize, out: &mut [u32]) -> Ran
+pub fn run(settings: Settings, state: State, n: usize, out: &mut [u32]) -> Result<Ran, Refusal>
     ensures { Generated settings state n out.old out.new result }
 {
     if settings.bad_mask() {
-        return refused(state, signals::Refusal::BadMask);
+        return Err(Refusal::BadMask);
     }
     if settings.overwrites_itself() {
-        return refused(state, signals::Refusal::OverwritesItself);
+        return Err(Refusal::OverwritesItself);
     }
     if settings.total < state.ov {
-        return refused(state, signals::Refusal::BadState);
+        return Err(Refusal::BadState);
     }
     if out.len() < n {
-        return refused(state, signals::Refusal::OutputTooShort);
+        return Err(Refusal::OutputTooShort);
     }
     let count = settings.iterations(state, n);
-    let end = fill(settings, state, count, out);
-    Ran {
-        outcome: signals::Outcome::Accepted,
-        count: count,
-        state: end,
-        done: end.ov == settings.total,
-    }
+    let state = fill(settings, state, &mut out[..count]);
+    let done = state.ov == settings.total;
+    Ok(Ran { count, state, done })
 }

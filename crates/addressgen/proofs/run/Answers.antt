@@ -1,6 +1,6 @@
--- `addressgen::run` meets its contract: its tests are those of the refusals, in order, and `fill` makes the iterations.
--- Assumes nothing.
-use Rattle.std.proofs.Common.{length, sym, ◌∙◌, arith, le-ltb}
+-- `run`'s tests are those of the refusals, in order, and `fill` makes the iterations. Assumes nothing.
+use Rattle.std.proofs.Common.{◌≤◌, length, sym, ◌∙◌, arith, le-ltb}
+use Rattle.std.proofs.lemmas.List.{length-take-le}
 use Rattle.addressgen.proofs.Running.{accepted_run}
 use Rattle.addressgen.proofs.run.Goals as goal
 
@@ -11,6 +11,7 @@ returns c =
     let advancing = sym c.overwrites_itself.ensures ∙ c.if-overwrites_itself.false in
     let legal = le-ltb a.settings.total a.state.ov (omega arith) in
     let room = le-ltb (length a.out.now) a.n (omega arith) in
-    let filled = c.fill-end.ensures in
+    let within : c.iterations-count.result ≤ length a.out.now = omega arith in
+    let filled = rw (length-take-le c.iterations-count.result a.out.now within) at c.fill-state.ensures in
     accepted_run a.settings a.state a.n a.out.now (simp (mask, advancing, legal, room))
-    _ c.iterations-count.ensures _ filled.0 _ filled.1
+    _ c.iterations-count.ensures _ filled.0 _ (rw filled.1)

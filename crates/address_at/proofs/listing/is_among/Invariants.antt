@@ -1,15 +1,8 @@
--- `address_at::listing::is_among` meets its contract. The invariant: what was found below `j` and the addresses from there on answer
--- together for all of them. Assumes nothing.
-use Prim.Native.Nat.{◌≤◌, ◌-◌}
-use mathlib.Core.Bool.{◌||◌}
-use mathlib.Core.Path.{◌≡◌}
-use lib.ListN.{length, drop}
+-- What was found so far and the addresses that are left answer together for all of them. Assumes nothing.
+use Rattle.std.proofs.Common.{◌≡◌, ◌||◌, drop}
 use Rattle.address_at.specs.Overlap.{is_among}
 use Rattle.address_at.proofs.listing.is_among.Given as goal
 
-abbrev pub invariant-loop-j : goal.invariant-loop-j
-invariant-loop-j l =
-    (l.j ≤ length l.yielded') × (l.found || is_among (drop l.j l.yielded') l.address ≡ is_among l.yielded' l.address)
-
-abbrev pub decreases-loop-j : goal.decreases-loop-j
-decreases-loop-j l = length l.yielded' - l.j
+abbrev pub invariant-loop-other : goal.invariant-loop-other
+invariant-loop-other l =
+    l.found || is_among (drop l.other-index l.others) l.address ≡ is_among l.others l.address
