@@ -16,11 +16,11 @@ use Rattle.signals.specs.Payloads.{zeros}
 use Rattle.signals.proofs.Bools.{either, both}
 use Rattle.fifo.specs.declared.Fifo.{Fifo}
 use Rattle.fifo.specs.declared.Pointers.{Pointers}
-use Rattle.fifo.specs.Queue.{ill, well, plain, empty}
+use Rattle.fifo.specs.Queue.{ill, well, plain}
 use Rattle.fifo.specs.Ring.{ring, wrapped, fifo_with, queue_of, in_range, trusted}
 use Rattle.fifo.specs.Memory.{slots_in, fifo_in, has_slots, trusted_in}
 use Rattle.fifo.proofs.Places.{wrapped_below}
-use Rattle.fifo.proofs.Form.{form_of, trusted_in_lem, trusted_out, count_0_empty}
+use Rattle.fifo.proofs.Form.{form_of, trusted_in_lem, trusted_out}
 
 -- the payload of a word and a strobe
 abbrev pub slot : (word strb : ℕ) → Payload
@@ -59,10 +59,6 @@ pub trusted_memory : (p : Pointers) (words strbs : List ℕ) → has_slots p.pla
 unfolding trusted_in
 trusted_memory p words strbs e = rw e
 
-pub trusted_no_memory : (p : Pointers) (words strbs : List ℕ) → has_slots p.place.depth words strbs ≡ false → trusted_in p words strbs ≡ ill
-unfolding trusted_in
-trusted_no_memory p words strbs e = rw e
-
 -- the two tests of the form together
 pub trusted_formed : (p : Pointers) (words strbs : List ℕ) → (in_range (fifo_in p words strbs) && has_slots p.place.depth words strbs) ≡ true
     → trusted_in p words strbs ≡ well (queue_of (fifo_in p words strbs))
@@ -89,6 +85,12 @@ pub formed_tests : (p : Pointers) (words strbs : List ℕ) (numbers room : Bool)
     → (numbers && room) ≡ (in_range (fifo_in p words strbs) && has_slots p.place.depth words strbs)
 formed_tests p words strbs numbers room e k = rw (e (slots_in words strbs), k)
 
+pub formed_both : (p : Pointers) (words strbs : List ℕ) (numbers room : Bool) → ((slots : List Payload) → numbers ≡ in_range (fifo_with p slots))
+    → room ≡ has_slots p.place.depth words strbs
+    → (numbers && room) ≡ true → (in_range (fifo_in p words strbs) ≡ true) × (has_slots p.place.depth words strbs ≡ true)
+formed_both p words strbs numbers room e k formed =
+    both (in_range (fifo_in p words strbs)) (has_slots p.place.depth words strbs) (sym (formed_tests p words strbs numbers room e k) ∙ formed)
+
 -- a plain place of depth 0 is no FIFO's
 pub depth_0_unformed : (count oldest : ℕ) (slots : List Payload) → in_range (record { place = plain 0; count = count; oldest = oldest; slots = slots }) ≡ false
 unfolding in_range
@@ -98,14 +100,6 @@ depth_0_unformed count oldest slots = refl
 pub slots_kept : (depth : ℕ) (words strbs afterWords afterStrbs : List ℕ) → has_slots depth words strbs ≡ true
     → length afterWords ≡ length words → length afterStrbs ≡ length strbs → has_slots depth afterWords afterStrbs ≡ true
 slots_kept depth words strbs afterWords afterStrbs e h k = rw (h, k) e
-
--- pointers that hold none stand for an empty queue
-pub trusted_empty : (p : Pointers) (words strbs : List ℕ) → in_range (fifo_in p words strbs) ≡ true → has_slots p.place.depth words strbs ≡ true
-    → trusted_in (record { place = p.place; count = 0; oldest = p.oldest }) words strbs ≡ well (empty p.place)
-trusted_empty p words strbs e room =
-    let form = form_of (fifo_in p words strbs) e in
-    trusted_memory (record { place = p.place; count = 0; oldest = p.oldest }) words strbs room
-    ∙ count_0_empty p.place p.oldest (slots_in words strbs) form.place form.oldest
 
 -- numbers that are in range are so whatever the slots hold
 pub in_range_any : (p : Pointers) (slots others : List Payload) → in_range (fifo_with p slots) ≡ in_range (fifo_with p others)

@@ -7,5 +7,6 @@ pub mod LentSlots
 pub mod Strobes
 pub mod Held
 pub mod Stepping
+pub mod Turning
 pub mod Lending
 pub mod Some

@@ -51,6 +51,17 @@ wrapped_next depth at n h k =
     ∙ next_remainder depth at n h
     ∙ sym (place_is_remainder_lem depth at (suc n) (omega arith))
 
+-- one on from n on is n + 1 on
+pub wrapped_step : (depth at n : ℕ) → at < depth → n < depth → wrapped depth (wrapped depth (at + n) + 1) ≡ wrapped depth (at + (n + 1))
+wrapped_step depth at n h k =
+    let below = wrapped_below depth at n (omega arith) in
+    let same : at + n + 1 ≡ at + (n + 1) = omega arith in
+    place_is_remainder_lem depth (wrapped depth (at + n)) 1 (omega arith)
+    ∙ ap (λ (slot : ℕ). (slot + 1) % depth) (place_is_remainder_lem depth at n (omega arith))
+    ∙ mod-add-mod (at + n) depth 1
+    ∙ ap (λ (place : ℕ). place % depth) same
+    ∙ sym (place_is_remainder_lem depth at (n + 1) (omega arith))
+
 -- a slot further on, less than a round, is another one
 pub wrapped_other : (depth at n : ℕ) → at < depth → suc n < depth → at ≡ wrapped depth (at + suc n) → ⊥
 wrapped_other depth at n h k e =

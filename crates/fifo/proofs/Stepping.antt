@@ -6,17 +6,16 @@ use mathlib.Core.List.{List, [], ◌∷◌}
 use mathlib.Core.Logic.{⊎_elim}
 use mathlib.Core.Option.{Option, none, some}
 use mathlib.Core.Path.{◌≡◌, refl, sym, ap, ◌∙◌}
+use Rattle.std.specs.Prelude.{Result, Ok, Err}
 use Rattle.signals.specs.declared.Payload.{Payload}
 use Rattle.signals.specs.declared.Refusal.{Refusal}
-use Rattle.signals.specs.declared.Outcome.TheVariants.{Refused}
+use Rattle.signals.specs.declared.Stepped.{Stepped}
 use Rattle.signals.specs.Refusals.{number_of, accepts}
 use Rattle.signals.specs.Tables.{first_applying}
-use Rattle.signals.specs.Payloads.{zeros, legal_strb}
+use Rattle.signals.specs.Payloads.{legal_strb}
 use Rattle.signals.proofs.Bools.{either}
 use Rattle.fifo.specs.declared.Fifo.{Fifo}
-use Rattle.fifo.specs.declared.Stepped.{Stepped}
 use Rattle.fifo.specs.declared.Pointers.{Pointers}
-use Rattle.fifo.specs.declared.SteppedIn.{SteppedIn}
 use Rattle.fifo.specs.Queue.{Queue, Value, well, ready_of, Answer, refused, cleared, cycled, step_grounds, step_by, step_of, when, is_any, oldest, shown, shown_as, ready, next, emptied, legal_strbs}
 use Rattle.fifo.specs.Ring.{trusted, value, strobes_checked}
 use Rattle.fifo.specs.Promises.{Steps, answered, trusted_in, StaysPast, StepsIn, answered_in}
@@ -51,55 +50,49 @@ pub parts_cycle : (q : Queue) (offer : List Payload) (sink is-ready valid : Bool
 parts_cycle q offer sink is-ready valid p v by-ready by_valid by_payload by_next = rw (by-ready, by_valid, by_payload, by_next)
 
 -- the code's refusal is the rule's where its number is the one that is given
-pub refusal_steps : (value_of : Fifo → Value) (f : Fifo) (offer sink clear : Bool) (p : Payload) (why : Refusal) (r : Stepped)
+pub refusal_steps : (value_of : Fifo → Value) (f : Fifo) (offer sink clear : Bool) (p : Payload) (why : Refusal)
     → first_applying (step_grounds (value_of f) p) ≡ some (number_of why)
-    → r ≡ record { outcome = Refused why; ready = false; valid = false; payload = zeros; next = f }
-    → Steps value_of f offer p sink clear r
-refusal_steps value_of f offer sink clear p why r given e =
-    rw e (record { answer = sym (step_refused (value_of f) offer sink clear p (number_of why) given); kept = λ _. refl })
+    → Steps value_of f offer p sink clear (Err why)
+refusal_steps value_of f offer sink clear p why given =
+    record { answer = sym (step_refused (value_of f) offer sink clear p (number_of why) given) }
 
--- and so is its cycle, which is accepted
-pub cycle_answers : (v : Value) (q : Queue) (offer sink clear : Bool) (p : Payload) (a : Answer)
+-- and so is its cycle
+cycle_answers : (v : Value) (q : Queue) (offer sink clear : Bool) (p : Payload) (a : Answer)
     → v ≡ well q → legal_strb p ≡ true → a ≡ cond clear (cleared q) (cycled q (when offer (p ∷ [])) sink)
-    → (a ≡ step_of v offer p sink clear) × (accepts a.refusal ≡ true)
-cycle_answers v q offer sink clear p a e legal cycle = (
-  cycle ∙ sym (ap (λ (w : Value). step_of w offer p sink clear) e ∙ step_legal q offer sink clear p legal),
-  ap (λ (b : Answer). accepts b.refusal) cycle ∙ accepted clear,
-)
-  where
-    accepted : (c : Bool) → accepts (cond c (cleared q) (cycled q (when offer (p ∷ [])) sink)).refusal ≡ true
-    accepted true = refl
-    accepted false = refl
+    → a ≡ step_of v offer p sink clear
+cycle_answers v q offer sink clear p a e legal cycle =
+    cycle ∙ sym (ap (λ (w : Value). step_of w offer p sink clear) e ∙ step_legal q offer sink clear p legal)
 
-pub cycle_steps : (f : Fifo) (q : Queue) (offer sink clear : Bool) (p : Payload) (r : Stepped)
+pub cycle_steps : (f : Fifo) (q : Queue) (offer sink clear : Bool) (p : Payload) (s : Stepped Fifo)
     → trusted f ≡ well q → legal_strb p ≡ true
-    → answered trusted r ≡ cond clear (cleared q) (cycled q (when offer (p ∷ [])) sink)
-    → Steps trusted f offer p sink clear r
-cycle_steps f q offer sink clear p r e legal cycle =
-    let by_rule = cycle_answers (trusted f) q offer sink clear p (answered trusted r) e legal cycle in
-    record { answer = by_rule.0; kept = λ n. absurd (false≢true (sym n ∙ by_rule.1)) }
+    → answered trusted f (Ok s) ≡ cond clear (cleared q) (cycled q (when offer (p ∷ [])) sink)
+    → Steps trusted f offer p sink clear (Ok s)
+cycle_steps f q offer sink clear p s e legal cycle =
+    record { answer = cycle_answers (trusted f) q offer sink clear p (answered trusted f (Ok s)) e legal cycle }
 
 -- the same in lent memory
-pub refusal_steps_in : (p : Pointers) (words strbs : List ℕ) (offer sink clear : Bool) (payload : Payload) (why : Refusal) (r : SteppedIn)
+pub refusal_steps_in : (p : Pointers) (words strbs : List ℕ) (offer sink clear : Bool) (payload : Payload) (why : Refusal)
     → first_applying (step_grounds (trusted_in p words strbs) payload) ≡ some (number_of why)
-    → r ≡ record { outcome = Refused why; ready = false; valid = false; payload = zeros; next = p }
-    → StepsIn p words strbs offer payload sink clear r words strbs
-refusal_steps_in p words strbs offer sink clear payload why r given e =
-    rw e (record {
+    → StepsIn p words strbs offer payload sink clear (Err why) words strbs
+refusal_steps_in p words strbs offer sink clear payload why given =
+    record {
       answer = sym (step_refused (trusted_in p words strbs) offer sink clear payload (number_of why) given);
       past = record { of_words = refl; of_strbs = refl };
-      kept = λ _. (refl, (refl, refl));
-    })
+      kept = λ _. (refl, refl);
+    }
 
-pub cycle_steps_in : (p : Pointers) (words strbs : List ℕ) (q : Queue) (offer sink clear : Bool) (payload : Payload) (r : SteppedIn)
+pub cycle_steps_in : (p : Pointers) (words strbs : List ℕ) (q : Queue) (offer sink clear : Bool) (payload : Payload) (s : Stepped Pointers)
     (afterWords afterStrbs : List ℕ)
     → trusted_in p words strbs ≡ well q → legal_strb payload ≡ true
-    → answered_in r afterWords afterStrbs ≡ cond clear (cleared q) (cycled q (when offer (payload ∷ [])) sink)
+    → answered_in p (Ok s) afterWords afterStrbs ≡ cond clear (cleared q) (cycled q (when offer (payload ∷ [])) sink)
     → StaysPast p.place.depth words strbs afterWords afterStrbs
-    → StepsIn p words strbs offer payload sink clear r afterWords afterStrbs
-cycle_steps_in p words strbs q offer sink clear payload r afterWords afterStrbs e legal cycle past =
-    let by_rule = cycle_answers (trusted_in p words strbs) q offer sink clear payload (answered_in r afterWords afterStrbs) e legal cycle in
-    record { answer = by_rule.0; past = past; kept = λ n. absurd (false≢true (sym n ∙ by_rule.1)) }
+    → StepsIn p words strbs offer payload sink clear (Ok s) afterWords afterStrbs
+cycle_steps_in p words strbs q offer sink clear payload s afterWords afterStrbs e legal cycle past =
+    record {
+      answer = cycle_answers (trusted_in p words strbs) q offer sink clear payload (answered_in p (Ok s) afterWords afterStrbs) e legal cycle;
+      past = past;
+      kept = λ n. absurd (false≢true (sym n));
+    }
 
 -- an answer with a legal payload, and a next queue with legal strobes
 record Legal (a : Answer) : Type 0 where
@@ -120,25 +113,24 @@ answer_legal q offer sink clear p a =
               (next_legal q (when offer (p ∷ [])) sink a (legal_when offer (p ∷ []) (legal_one p e)));
         }
 
-module _ (f : Fifo) (q : Queue) (offer : Bool) (p : Payload) (sink clear : Bool) (r : Stepped)
-    (before : value f ≡ well q) (steps : Steps trusted f offer p sink clear r) where
-  by_rule : answered trusted r ≡ step_of (well q) offer p sink clear
-  by_rule = steps.answer ∙ ap (λ (v : Value). step_of v offer p sink clear) (trusted_of_value f q before).0
+-- what is answered by the numbers is answered by the strobes too, where those of the FIFO handed back are legal
+value_answered : (f : Fifo) (r : Result (Stepped Fifo) Refusal) → strobes_checked (answered trusted f r).next ≡ (answered trusted f r).next
+    → answered value f r ≡ answered trusted f r
+unfolding value
+value_answered f (Ok s) e =
+    ap (λ (v : Value). record { refusal = none; ready = s.ready; valid = s.valid; payload = s.payload; next = v }) e
+value_answered f (Err why) e = ap (refused (number_of why)) e
 
-  legal : Legal (answered trusted r)
-  legal = rw by_rule (answer_legal q offer sink clear p (trusted_of_value f q before).1)
-
-  same_value : value r.next ≡ trusted r.next
-  unfolding value
-  same_value = legal.next
-
-  -- a trusted step is a step
-  pub trusted_steps : Steps value f offer p sink clear r
-  trusted_steps =
-      record {
-        answer = rw (same_value, before) by_rule;
-        kept = steps.kept;
-      }
+-- a trusted step is a step
+pub trusted_steps : (f : Fifo) (q : Queue) (offer : Bool) (p : Payload) (sink clear : Bool) (r : Result (Stepped Fifo) Refusal) → value f ≡ well q
+    → Steps trusted f offer p sink clear r → Steps value f offer p sink clear r
+trusted_steps f q offer p sink clear r before steps =
+    let look = trusted_of_value f q before in
+    let by_rule : answered trusted f r ≡ step_of (well q) offer p sink clear =
+    steps.answer ∙ ap (λ (v : Value). step_of v offer p sink clear) look.0
+    in
+    let legal : Legal (answered trusted f r) = rw by_rule (answer_legal q offer sink clear p look.1) in
+    record { answer = value_answered f r legal.next ∙ by_rule ∙ sym (ap (λ (v : Value). step_of v offer p sink clear) before) }
 
 -- what a FIFO that holds q answers in one cycle, with clear or without, and the value that it leaves
 pub record Served (q : Queue) (offers : Bool) (p : Payload) (behind clear valid : Bool) (payload : Payload) (v : Value) : Type 0 where
@@ -163,8 +155,27 @@ answer_serves v q offers p behind clear a before legal answer =
     }
 
 -- and so does a trusted step
-pub trusted_serves : (f : Fifo) (q : Queue) (offers : Bool) (p : Payload) (behind clear : Bool) (r : Stepped) → value f ≡ well q
-    → legal_strb p ≡ true → Steps trusted f offers p behind clear r → Served q offers p behind clear r.valid r.payload (value r.next)
+pub trusted_serves : (f : Fifo) (q : Queue) (offers : Bool) (p : Payload) (behind clear : Bool) (s : Stepped Fifo) → value f ≡ well q
+    → legal_strb p ≡ true → Steps trusted f offers p behind clear (Ok s) → Served q offers p behind clear s.valid s.payload (value s.next)
 unfolding value
-trusted_serves f q offers p behind clear r before legal steps =
-    answer_serves (trusted f) q offers p behind clear (answered trusted r) before legal steps.answer
+trusted_serves f q offers p behind clear s before legal steps =
+    answer_serves (trusted f) q offers p behind clear (answered trusted f (Ok s)) before legal steps.answer
+
+-- with a legal payload nothing is refused
+pub answer_accepts : (v : Value) (q : Queue) (offers : Bool) (p : Payload) (behind clear : Bool) (a : Answer) → strobes_checked v ≡ well q
+    → legal_strb p ≡ true → a ≡ step_of v offers p behind clear → accepts a.refusal ≡ true
+answer_accepts v q offers p behind clear a before legal answer =
+    let look = checked_well v q before in
+    ap (λ (b : Answer). accepts b.refusal)
+    (answer ∙ ap (λ (w : Value). step_of w offers p behind clear) look.0 ∙ step_legal q offers behind clear p legal)
+    ∙ accepted clear
+  where
+    accepted : (c : Bool) → accepts (cond c (cleared q) (cycled q (when offers (p ∷ [])) behind)).refusal ≡ true
+    accepted true = refl
+    accepted false = refl
+
+pub trusted_never_refused : (f : Fifo) (q : Queue) (offers : Bool) (p : Payload) (behind clear : Bool) (why : Refusal) → value f ≡ well q
+    → legal_strb p ≡ true → Steps trusted f offers p behind clear (Err why) → ⊥
+unfolding value
+trusted_never_refused f q offers p behind clear why before legal steps =
+    false≢true (answer_accepts (trusted f) q offers p behind clear (answered trusted f (Err why)) before legal steps.answer)

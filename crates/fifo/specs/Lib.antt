@@ -4,3 +4,4 @@ pub mod Queue
 pub mod Ring
 pub mod Memory
 pub mod Promises
+pub mod Turn

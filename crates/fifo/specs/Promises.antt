@@ -1,39 +1,34 @@
 -- What `Fifo::new`, the step of a FIFO and the calls in lent memory promise. The position of the oldest and the unused slots of a FIFO
 -- that is handed back, or that is left in memory, are free, unless the call was refused. Assumes nothing.
-use Rattle.std.specs.Prelude.{ℕ, Bool, false, cond, List, ◌≡◌, drop}
+use Rattle.std.specs.Prelude.{ℕ, Bool, false, cond, List, ◌≡◌, drop, Result, Ok, Err, IfOk}
+use Rattle.std.proofs.Math.Option.{none}
 use Rattle.signals.specs.declared.Payload.{Payload}
-use Rattle.signals.specs.Refusals.{refusal_of, accepts}
+use Rattle.signals.specs.declared.Refusal.{Refusal}
+use Rattle.signals.specs.declared.Stepped.{Stepped}
+use Rattle.signals.specs.Refusals.{number_of, refusal_of, accepts}
 use Rattle.signals.specs.Tables.{first_applying}
 use Rattle.fifo.specs.declared.Place.{Place}
 use Rattle.fifo.specs.declared.Fifo.{Fifo}
-use Rattle.fifo.specs.declared.NewFifo.{NewFifo}
-use Rattle.fifo.specs.declared.Stepped.{Stepped}
 use Rattle.fifo.specs.declared.Pointers.{Pointers}
-use Rattle.fifo.specs.declared.SteppedIn.{SteppedIn}
-use Rattle.fifo.specs.Queue.{Value, ill, well, is_well, Answer, step_of, new_grounds, new_queue}
+use Rattle.fifo.specs.Queue.{Value, ill, well, is_well, empty, Answer, refused, step_of, new_grounds}
 use Rattle.fifo.specs.Memory.{has_slots}
 pub use Rattle.fifo.specs.Ring.{value, trusted, ready_in}
 pub use Rattle.fifo.specs.Memory.{value_in, trusted_in}
 
-pub record Made (place : Place) (r : NewFifo) : Type 0 where
-  pub refusal : refusal_of r.outcome ≡ first_applying (new_grounds place)
-  pub gives : value r.fifo ≡ well (new_queue place)
+-- a new FIFO is empty, at its place, unless it is refused
+pub record Made (place : Place) (r : Result Fifo Refusal) : Type 0 where
+  pub refusal : refusal_of r ≡ first_applying (new_grounds place)
+  pub gives : IfOk r (λ f. value f ≡ well (empty place))
 
--- a step's answer, with the FIFO that it hands back read by `value_of`
-abbrev pub answered : (value_of : Fifo → Value) → Stepped → Answer
-answered value_of r =
-    record {
-      refusal = refusal_of r.outcome;
-      ready = r.ready;
-      valid = r.valid;
-      payload = r.payload;
-      next = value_of r.next;
-    }
+-- a step's answer, with what it hands back read by `value_of`: the next, or what was given where it is refused
+abbrev pub answered : {S : Type 0} → (value_of : S → Value) → (given : S) → Result (Stepped S) Refusal → Answer
+answered value_of given (Ok s) =
+    record { refusal = none; ready = s.ready; valid = s.valid; payload = s.payload; next = value_of s.next }
+answered value_of given (Err why) = refused (number_of why) (value_of given)
 
--- the answer is the rule's, and a refused FIFO comes back exactly as given
-pub record Steps (value_of : Fifo → Value) (f : Fifo) (valid : Bool) (p : Payload) (sink clear : Bool) (r : Stepped) : Type 0 where
-  pub answer : answered value_of r ≡ step_of (value_of f) valid p sink clear
-  pub kept : accepts (refusal_of r.outcome) ≡ false → r.next ≡ f
+-- the answer is the rule's, and a refused FIFO is as it was given
+pub record Steps (value_of : Fifo → Value) (f : Fifo) (valid : Bool) (p : Payload) (sink clear : Bool) (r : Result (Stepped Fifo) Refusal) : Type 0 where
+  pub answer : answered value_of f r ≡ step_of (value_of f) valid p sink clear
 
 -- lent memory past so many slots is as it was
 pub record StaysPast (depth : ℕ) (words strbs afterWords afterStrbs : List ℕ) : Type 0 where
@@ -48,19 +43,12 @@ pub record LaysIn (f : Fifo) (words strbs : List ℕ) (r : Pointers) (afterWords
   pub kept : is_well (trusted_in r afterWords afterStrbs) ≡ false → (afterWords ≡ words) × (afterStrbs ≡ strbs)
 
 -- a step's answer in lent memory
-abbrev pub answered_in : SteppedIn → (afterWords afterStrbs : List ℕ) → Answer
-answered_in r afterWords afterStrbs =
-    record {
-      refusal = refusal_of r.outcome;
-      ready = r.ready;
-      valid = r.valid;
-      payload = r.payload;
-      next = trusted_in r.next afterWords afterStrbs;
-    }
+abbrev pub answered_in : (given : Pointers) → Result (Stepped Pointers) Refusal → (afterWords afterStrbs : List ℕ) → Answer
+answered_in given r afterWords afterStrbs = answered (λ p. trusted_in p afterWords afterStrbs) given r
 
--- the answer is the rule's, memory past the depth stays, and refused pointers and their memory come back exactly as given
-pub record StepsIn (p : Pointers) (words strbs : List ℕ) (valid : Bool) (offer : Payload) (sink clear : Bool) (r : SteppedIn)
+-- the answer is the rule's, memory past the depth stays, and where it is refused pointers and their memory are as they were given
+pub record StepsIn (p : Pointers) (words strbs : List ℕ) (valid : Bool) (offer : Payload) (sink clear : Bool) (r : Result (Stepped Pointers) Refusal)
     (afterWords afterStrbs : List ℕ) : Type 0 where
-  pub answer : answered_in r afterWords afterStrbs ≡ step_of (trusted_in p words strbs) valid offer sink clear
+  pub answer : answered_in p r afterWords afterStrbs ≡ step_of (trusted_in p words strbs) valid offer sink clear
   pub past : StaysPast p.place.depth words strbs afterWords afterStrbs
-  pub kept : accepts (refusal_of r.outcome) ≡ false → (r.next ≡ p) × ((afterWords ≡ words) × (afterStrbs ≡ strbs))
+  pub kept : accepts (refusal_of r) ≡ false → (afterWords ≡ words) × (afterStrbs ≡ strbs)

@@ -9,14 +9,13 @@ mod capacity;
 mod memory;
 mod ring;
 
-ghost use Rattle.std.specs.Prelude.{◌≡◌, true, false, cond, [], ◌∷◌, length};
-ghost use Rattle.signals.specs.Payloads.{zeros};
-ghost use Rattle.fifo.specs.Queue.{is_well, ready_of, queue_in, when, cleared, cycled};
+ghost use Rattle.std.specs.Prelude.{◌≡◌, true, cond, [], ◌∷◌, length, Ok};
+ghost use Rattle.fifo.specs.Queue.{is_well, ready_of, queue_in, when, well, empty, plain, cleared, cycled};
 ghost use Rattle.fifo.specs.Ring.{value, trusted, queue_of, in_range};
 ghost use Rattle.fifo.specs.Promises.{Made, Steps, answered};
 
-use ring::{every_slot, wrap};
-use signals::{MAX_STRB, Outcome, Payload, Refusal};
+use ring::wrap;
+use signals::{Cycle, MAX_STRB, Payload, Refusal, Stepped, ZEROS};
 
 // The deepest FIFO.
 pub const MAX_DEPTH: usize = 64;
@@ -29,13 +28,14 @@ pub struct Place {
     pub early_stall: bool,
 }
 
-// The place of the one FIFO that a refused new FIFO or chain is.
+// The place of the one FIFO that stands where a new FIFO or chain was refused.
 pub const SMALLEST: Place = Place {
     depth: 2,
     early_stall: false,
 };
 
-// A FIFO, document 01's stage. `count` payloads lie in the slots from `oldest` on, around the end at the depth of its place.
+// A FIFO, document 01's stage. `count` payloads lie in the slots from `oldest` on, around the end at the depth of its place. C writes
+// its fields, so its form is tested and not an invariant.
 #[repr(C)]
 #[derive(Clone, Copy)]
 pub struct Fifo {
@@ -53,57 +53,38 @@ pub struct Pointers {
     pub oldest: usize,
 }
 
-#[derive(Clone, Copy)]
-pub struct NewFifo {
-    pub outcome: Outcome,
-    pub fifo: Fifo,
-}
-
-// What a step shows, and the FIFO after it.
-#[derive(Clone, Copy)]
-pub struct Stepped {
-    pub outcome: Outcome,
-    pub ready: bool,
-    pub valid: bool,
-    pub payload: Payload,
-    pub next: Fifo,
-}
-
-// What a step in lent memory shows, and the pointers after it.
-#[derive(Clone, Copy)]
-pub struct SteppedIn {
-    pub outcome: Outcome,
-    pub ready: bool,
-    pub valid: bool,
-    pub payload: Payload,
-    pub next: Pointers,
-}
-
 impl Fifo {
-    // An empty FIFO. A place that is refused gives a plain one of depth 2.
-    pub fn new(place: Place) -> NewFifo
+    // An empty FIFO.
+    pub fn new(place: Place) -> Result<Fifo, Refusal>
         ensures { Made place result }
     {
-        if place.is_legal() {
-            return NewFifo {
-                outcome: Outcome::Accepted,
-                fifo: Fifo::empty(place),
-            };
+        if !place.is_legal() {
+            return Err(Refusal::BadDepth);
         }
-        NewFifo {
-            outcome: Outcome::Refused(Refusal::BadDepth),
-            fifo: Fifo::empty(SMALLEST),
-        }
+        Ok(Fifo::empty(place))
+    }
+
+    // What a caller has where a new FIFO was refused: an empty one, plain, of depth 2.
+    pub fn smallest() -> Fifo
+        ensures { value result ≡ well (empty (plain 2)) }
+    {
+        Fifo::empty(SMALLEST)
     }
 
     // Whether a FIFO has its form, held strobes included.
     pub fn is_well(self) -> bool
         ensures { result ≡ is_well (value self) }
     {
-        if self.is_in_range() {
-            return self.has_legal_strobes();
+        if !self.is_in_range() {
+            return false;
         }
-        false
+        for i in 0..self.count {
+            let held = self.slots[wrap(self.place.depth, self.oldest + i)];
+            if MAX_STRB < held.strb {
+                return false;
+            }
+        }
+        true
     }
 
     // Whether a FIFO whose held strobes are trusted is ready to its source.
@@ -121,82 +102,54 @@ impl Fifo {
     }
 
     // One cycle of a FIFO that has its form; the held strobes are looked at first.
-    pub fn step(self, valid: bool, payload: Payload, sink: bool, clear: bool) -> Stepped
-        ensures { Steps value self valid payload sink clear result }
+    pub fn step(self, cycle: Cycle) -> Result<Stepped<Fifo>, Refusal>
+        ensures { Steps value self cycle.valid cycle.payload cycle.sink cycle.clear result }
     {
-        if self.is_well() {
-            return self.step_trusted(valid, payload, sink, clear);
+        if !self.is_well() {
+            return Err(Refusal::BadState);
         }
-        self.silent(Outcome::Refused(Refusal::BadState))
+        self.step_trusted(cycle)
     }
 
     // One cycle of a FIFO whose held strobes are trusted: what is tested of its form takes constant time.
-    pub fn step_trusted(self, valid: bool, payload: Payload, sink: bool, clear: bool) -> Stepped
-        ensures { Steps trusted self valid payload sink clear result }
+    pub fn step_trusted(self, cycle: Cycle) -> Result<Stepped<Fifo>, Refusal>
+        ensures { Steps trusted self cycle.valid cycle.payload cycle.sink cycle.clear result }
     {
-        let formed = self.is_in_range();
-        let legal = payload.strb <= MAX_STRB;
-        if formed & legal {
-            return self.cycle(valid, payload, sink, clear);
+        if !self.is_in_range() {
+            return Err(Refusal::BadState);
         }
-        if formed {
-            return self.silent(Outcome::Refused(Refusal::IllegalBits));
+        if MAX_STRB < cycle.payload.strb {
+            return Err(Refusal::IllegalBits);
         }
-        self.silent(Outcome::Refused(Refusal::BadState))
+        Ok(self.cycle(cycle))
     }
 
     // One cycle, nothing being refused. The slots are copied out once and back once.
-    fn cycle(self, valid: bool, payload: Payload, sink: bool, clear: bool) -> Stepped
+    fn cycle(self, given: Cycle) -> Stepped<Fifo>
         requires { in_range self ≡ true }
-        ensures { answered trusted result ≡ cond clear (cleared (queue_of self)) (cycled (queue_of self) (when valid (payload ∷ [])) sink) }
+        ensures { answered trusted self (Ok result) ≡ cond given.clear (cleared (queue_of self)) (cycled (queue_of self) (when given.valid (given.payload ∷ [])) given.sink) }
     {
-        if clear {
-            return self.emptied().silent(Outcome::Accepted);
-        }
         let pointers = self.pointers();
-        let count = self.count;
-        let oldest = self.oldest;
-        let ready = pointers.is_ready();
         let mut slots = self.slots;
-        every_slot(slots);
-        let mut shown = Payload { data: 0, strb: 0 };
-        if 0 < count {
-            shown = slots[oldest];
-        }
-        let left = pointers.popped(sink);
-        let place = left.place;
-        let first = left.oldest;
-        let mut held = left.count;
-        if valid & ready {
-            let end = wrap(place.depth, first + held);
-            slots[end] = payload;
-            held += 1;
+        let shown = pointers.shown(given.clear);
+        let payload = match shown {
+            Some(at) => slots[at],
+            None => ZEROS,
+        };
+        let turn = pointers.turn(given);
+        if let Some(at) = turn.joined {
+            slots[at] = given.payload;
         }
         Stepped {
-            outcome: Outcome::Accepted,
-            ready: ready,
-            valid: 0 < count,
-            payload: shown,
+            ready: turn.ready,
+            valid: shown.is_some(),
+            payload,
             next: Fifo {
-                place: place,
-                count: held,
-                oldest: first,
-                slots: slots,
+                place: self.place,
+                count: turn.next.count,
+                oldest: turn.next.oldest,
+                slots,
             },
-        }
-    }
-
-    // A step that shows nothing, and leaves this FIFO.
-    fn silent(self, outcome: Outcome) -> Stepped
-        ensures { result ≡ record { outcome = outcome; ready = false; valid = false; payload = zeros; next = self } }
-    {
-        let nothing = Payload { data: 0, strb: 0 };
-        Stepped {
-            outcome: outcome,
-            ready: false,
-            valid: false,
-            payload: nothing,
-            next: self,
         }
     }
 }

@@ -1,99 +1,92 @@
--- `Fifo::cycle` meets its contract: the payload shown is at the position of the oldest, and the FIFO that is built is the one
--- that a pop, and then a push of what is offered while ready, would leave, which is the rule's next queue. Assumes nothing.
-use Prim.Native.Nat.{◌≤◌}
+-- `Fifo::cycle` meets its contract: the answer is the turn's, in the FIFO's own slots. Assumes nothing.
+use Prim.Native.Nat.{ℕ, ◌<◌}
 use native.Mathlib.Omega.{arith}
-use mathlib.Core.Bool.{Bool, ◌&&◌}
-use mathlib.Core.List.{[], ◌∷◌}
-use mathlib.Core.Path.{◌≡◌, sym, ap, ◌∙◌}
+use mathlib.Core.Bool.{true, cond}
+use mathlib.Core.List.{List, [], ◌∷◌}
+use mathlib.Core.Path.{◌≡◌, sym, ap, ap₂, ◌∙◌}
 use lib.ListN.{length}
+use Rattle.std.specs.Prelude.{Option, Some, is_some, IfSome}
+use Rattle.signals.specs.declared.Payload.{Payload}
 use Rattle.fifo.specs.declared.Fifo.{Fifo}
+use Rattle.fifo.specs.declared.Place.{Place}
 use Rattle.fifo.specs.declared.Pointers.{Pointers}
-use Rattle.fifo.specs.Queue.{well, ready, shown, shown_as, next, when}
-use Rattle.fifo.specs.Ring.{pointers_of, ready_in, fifo_with, queue_of, in_range, trusted}
-use Rattle.fifo.proofs.Form.{depth_within, oldest_within, count_within, place_within, ready_count, shows_count, shows_oldest, shows_zeros, pop_queue, pop_in_range, push_makes_next, no_push}
+use Rattle.fifo.specs.Queue.{max_depth, when, cleared, cycled}
+use Rattle.fifo.specs.Ring.{pointers_of, fifo_with, queue_of, in_range, trusted}
+use Rattle.fifo.specs.Turn.{shown_from, set_at}
+use Rattle.fifo.proofs.Form.{depth_within}
 use Rattle.fifo.proofs.LentSlots.{in_range_any}
-use Rattle.fifo.proofs.Stepping.{parts_cycle}
+use Rattle.fifo.proofs.Turning.{turn_answers}
 use Rattle.fifo.proofs.Fifo.cycle.Goals as goal
-use Rattle.fifo.proofs.Fifo.cycle.Goals.{then-count-gt0, else-count-gt0, then-valid-ready, else-valid-ready}
+use Rattle.fifo.proofs.Fifo.cycle.Goals.{in-Some, in-None, in-Some-joined, in_default}
 
--- the pointers are the FIFO's
-same-fifo : (f : Fifo) (p : Pointers) → p ≡ pointers_of f → fifo_with p f.slots ≡ f
-same-fifo f p e = ap (λ (q : Pointers). fifo_with q f.slots) e
+-- a slot of the turn is one of the slots
+slot-within : (f : Fifo) (p : Pointers) (o : Option ℕ) (at : ℕ) → in_range f ≡ true → p ≡ pointers_of f → IfSome o (λ i. i < p.place.depth)
+    → o ≡ Some at → at < max_depth
+slot-within f p o at e same within is =
+    let below : at < p.place.depth = rw is at within in
+    omega (arith, below, ap (λ (q : Pointers). q.place.depth) same, depth_within f e)
 
--- ready is that of the list at the cycle's start
-room : (f : Fifo) (p : Pointers) (is-ready : Bool) → p ≡ pointers_of f → is-ready ≡ ready_in p → is-ready ≡ ready (queue_of f)
-room f p is-ready e k = k ∙ ap ready_in e ∙ sym (ready_count f)
-
--- the FIFO from which the oldest has left where the sink is ready
-pops : (f : Fifo) (p popped : Pointers) (sink : Bool) → p ≡ pointers_of f
-    → trusted (fifo_with popped f.slots) ≡ well (pop_queue (queue_of (fifo_with p f.slots)) sink)
-    → trusted (fifo_with popped f.slots) ≡ well (pop_queue (queue_of f) sink)
-pops f p popped sink e k = k ∙ ap (λ (g : Fifo). well (pop_queue (queue_of g) sink)) (same-fifo f p e)
-
-pub offset_bounds-slots-oldest : goal.offset_bounds-slots-oldest
-offset_bounds-slots-oldest c = omega (arith, oldest_within c.args.self c.requires)
-
-pub bounds-slots-oldest : goal.bounds-slots-oldest
-bounds-slots-oldest c = omega (arith, oldest_within c.args.self c.requires)
-
-pub popped-left-requires : goal.popped-left-requires
-popped-left-requires c =
+pub shown-shown-requires : goal.shown-shown-requires
+shown-shown-requires c =
     let f = c.args.self in
-    let p = c.pointers-pointers.result in
-    in_range_any p [] f.slots ∙ ap in_range (same-fifo f p c.pointers-pointers.ensures) ∙ c.requires
+    in_range_any c.pointers-pointers.result [] f.slots
+    ∙ ap (λ (p : Pointers). in_range (fifo_with p f.slots)) c.pointers-pointers.ensures
+    ∙ c.requires
 
-pub overflow_add-first : goal.overflow_add-first
-overflow_add-first c =
+pub turn-turn-requires : goal.turn-turn-requires
+turn-turn-requires c =
     let f = c.args.self in
-    let p = fifo_with c.popped-left.result f.slots in
-    let e = pop_in_range f p c.args.sink (pops f c.pointers-pointers.result c.popped-left.result c.args.sink c.pointers-pointers.ensures (c.popped-left.ensures f.slots)) in
-    omega (arith, oldest_within p e, count_within p e)
+    in_range_any c.pointers-pointers.result [] f.slots
+    ∙ ap (λ (p : Pointers). in_range (fifo_with p f.slots)) c.pointers-pointers.ensures
+    ∙ c.requires
 
--- the slot past the end is within the slots
-pub bounds-slots-end : goal.bounds-slots-end
-bounds-slots-end c =
-    let f = c.args.self in
-    let p = fifo_with c.popped-left.result f.slots in
-    let e = pop_in_range f p c.args.sink (pops f c.pointers-pointers.result c.popped-left.result c.args.sink c.pointers-pointers.ensures (c.popped-left.ensures f.slots)) in
-    omega (arith, c.wrap-end.ensures, place_within p p.count e (omega arith))
+pub offset_bounds-slots-at : goal.offset_bounds-slots-at
+offset_bounds-slots-at c =
+    omega (arith, slot-within c.args.self c.pointers-pointers.result _ c.in-Some.at c.requires c.pointers-pointers.ensures c.shown-shown.ensures.within c.in-Some.is)
 
-pub offset_bounds-slots-end : goal.offset_bounds-slots-end
-offset_bounds-slots-end c =
-    let f = c.args.self in
-    let p = fifo_with c.popped-left.result f.slots in
-    let e = pop_in_range f p c.args.sink (pops f c.pointers-pointers.result c.popped-left.result c.args.sink c.pointers-pointers.ensures (c.popped-left.ensures f.slots)) in
-    omega (arith, c.wrap-end.ensures, place_within p p.count e (omega arith))
+pub bounds-slots-at : goal.bounds-slots-at
+bounds-slots-at c =
+    slot-within c.args.self c.pointers-pointers.result _ c.in-Some.at c.requires c.pointers-pointers.ensures c.shown-shown.ensures.within c.in-Some.is
 
-pub overflow_add-held : goal.overflow_add-held
-overflow_add-held c =
-    let f = c.args.self in
-    let p = fifo_with c.popped-left.result f.slots in
-    let e = pop_in_range f p c.args.sink (pops f c.pointers-pointers.result c.popped-left.result c.args.sink c.pointers-pointers.ensures (c.popped-left.ensures f.slots)) in
-    omega (arith, count_within p e)
+pub offset_bounds-slots-at-in-Some-joined : goal.offset_bounds-slots-at-in-Some-joined
+offset_bounds-slots-at-in-Some-joined c =
+    omega (arith, slot-within c.args.self c.pointers-pointers.result _ c.in-Some-joined.at c.requires c.pointers-pointers.ensures c.turn-turn.ensures.within c.in-Some-joined.is)
 
-pub returns-then-clear : goal.returns-then-clear
-returns-then-clear c = rw (c.if-clear.true, c.silent.ensures, c.emptied.ensures)
+pub bounds-slots-at-in-Some-joined : goal.bounds-slots-at-in-Some-joined
+bounds-slots-at-in-Some-joined c =
+    slot-within c.args.self c.pointers-pointers.result _ c.in-Some-joined.at c.requires c.pointers-pointers.ensures c.turn-turn.ensures.within c.in-Some-joined.is
 
 pub returns : goal.returns
 returns c =
-    let a = c.args in
-    let f = a.self in
-    let p = fifo_with c.popped-left.result f.slots in
-    let leaves = pops f c.pointers-pointers.result c.popped-left.result a.sink c.pointers-pointers.ensures (c.popped-left.ensures f.slots) in
-    let is_room = room f c.pointers-pointers.result c.is_ready-ready.result c.pointers-pointers.ensures c.is_ready-ready.ensures in
-    let fits : p.place.depth ≤ length p.slots = omega (arith, depth_within p (pop_in_range f p a.sink leaves), c.every_slot.ensures) in
-    let joins = sym (ap (λ (b : Bool). a.valid && b) is_room) in
-    let shows : c.if-count-gt0.shown ≡ shown_as (shown (queue_of f)) =
-    elim c.if-count-gt0.branch [
-      | then-count-gt0 w ↦ w.shown-is ∙ sym (shows_oldest f w.if-count-gt0.true)
-      | else-count-gt0 w ↦ w.shown-is ∙ sym (shows_zeros f w.if-count-gt0.false)
+    let f = c.args.self in
+    let g = c.args.given in
+    let t = c.turn-turn.result in
+    let same : fifo_with c.pointers-pointers.result f.slots ≡ f = ap (λ (p : Pointers). fifo_with p f.slots) c.pointers-pointers.ensures in
+    let same_shown : c.match-shown.shown ≡ c.shown-shown.result =
+    elim c.match-shown.branch [
+      | in-Some w ↦ w.shown-is ∙ sym w.in-Some.is
+      | in-None w ↦ w.shown-is
     ]
     in
-    let built : Fifo = record { place = p.place; count = c.if-valid-ready.held; oldest = p.oldest; slots = c.if-valid-ready.slots } in
-    let gives : trusted built ≡ well (next (queue_of f) (when a.valid (a.payload ∷ [])) a.sink) =
-    elim c.if-valid-ready.branch [
-      | then-valid-ready w ↦ rw (w.slots-is, w.held-is, w.wrap-end.ensures) (push_makes_next f p a.sink leaves a.valid a.payload fits (joins ∙ w.if-valid-ready.true))
-      | else-valid-ready w ↦ rw (w.slots-is, w.held-is) (no_push f p a.sink leaves a.valid a.payload (joins ∙ w.if-valid-ready.false))
+    let shows : c.match-shown.payload ≡ shown_from f.slots c.shown-shown.result =
+    elim c.match-shown.branch [
+      | in-Some w ↦ w.payload-is ∙ sym (ap (shown_from f.slots) w.in-Some.is)
+      | in-None w ↦ w.payload-is ∙ sym (ap (shown_from f.slots) w.in-None.is)
     ]
     in
-    rw c.if-clear.false (parts_cycle (queue_of f) (when a.valid (a.payload ∷ [])) a.sink _ _ _ _ is_room (sym (shows_count f)) shows gives)
+    let writes : c.match-turn.slots ≡ set_at f.slots t.joined g.payload =
+    elim c.match-turn.branch [
+      | in-Some-joined w ↦ w.slots-is ∙ sym (ap (λ (o : Option ℕ). set_at f.slots o g.payload) w.in-Some-joined.is)
+      | in_default w ↦ w.slots-is ∙ sym (ap (λ (o : Option ℕ). set_at f.slots o g.payload) w.in_default.is)
+    ]
+    in
+    let same_place : f.place ≡ t.next.place = sym (c.turn-turn.ensures.same_place ∙ ap (λ (p : Pointers). p.place) c.pointers-pointers.ensures) in
+    let next : record { place = f.place; count = t.next.count; oldest = t.next.oldest; slots = c.match-turn.slots }
+    ≡ fifo_with t.next (set_at f.slots t.joined g.payload) =
+    ap₂ (λ (at : Place) (slots : List Payload). record { place = at; count = t.next.count; oldest = t.next.oldest; slots = slots }) same_place writes
+    in
+    let full : length f.slots ≡ max_depth = omega arith in
+    turn_answers c.pointers-pointers.result f.slots g.valid g.payload g.sink g.clear _ t _ _ _
+    (omega (arith, full, depth_within f c.requires, ap (λ (p : Pointers). p.place.depth) c.pointers-pointers.ensures))
+    c.shown-shown.ensures c.turn-turn.ensures (c.is_some.ensures ∙ ap is_some same_shown) shows (ap trusted next)
+    ∙ ap (λ (h : Fifo). cond g.clear (cleared (queue_of h)) (cycled (queue_of h) (when g.valid (g.payload ∷ [])) g.sink)) same

@@ -4,14 +4,13 @@ use Rattle.fifo.proofs.Strobes.{value_of_trusted, empty_legal}
 use Rattle.fifo.proofs.Fifo.new.Goals as goal
 
 pub empty-requires : goal.empty-requires
-empty-requires c = sym c.is_legal.ensures ∙ c.if-is_legal.true
+empty-requires c = sym c.is_legal.ensures ∙ c.if-not-is_legal.false
 
-pub returns-then-is_legal : goal.returns-then-is_legal
-returns-then-is_legal c =
-    let legal = sym c.is_legal.ensures ∙ c.if-is_legal.true in
-    record { refusal = rw legal; gives = rw legal (value_of_trusted _ _ c.empty.ensures empty_legal) }
+pub returns-then-not-is_legal : goal.returns-then-not-is_legal
+returns-then-not-is_legal c =
+    let illegal = sym c.is_legal.ensures ∙ c.if-not-is_legal.true in record { refusal = rw illegal; gives = tt }
 
 pub returns : goal.returns
 returns c =
-    let illegal = sym c.is_legal.ensures ∙ c.if-is_legal.false in
-    record { refusal = rw illegal; gives = rw illegal (value_of_trusted _ _ c.empty-2.ensures empty_legal) }
+    let legal = sym c.is_legal.ensures ∙ c.if-not-is_legal.false in
+    record { refusal = rw legal; gives = value_of_trusted _ _ c.empty.ensures empty_legal }

@@ -19,15 +19,11 @@ leaves sink count e = let h = both sink (ltb 0 count) e in (h.0, ltb-true 0 coun
 pub overflow_add-self : goal.overflow_add-self
 overflow_add-self c = omega (arith, oldest_within (fifo_with c.args.self []) c.requires)
 
-pub overflow_sub-count : goal.overflow_sub-count
-overflow_sub-count c =
-    omega (arith, (leaves c.args.sink c.args.self.count c.if-sink-self.true).1)
-
 pub returns-then-sink-self : goal.returns-then-sink-self
 returns-then-sink-self c slots =
     let f = fifo_with c.args.self slots in
     let on = leaves c.args.sink f.count c.if-sink-self.true in
-    rw (on.0, c.wrap-oldest.ensures) (pop_leaves_rest f (in_range_any c.args.self slots [] ∙ c.requires) on.1)
+    rw (on.0, c.wrap.ensures) (pop_leaves_rest f (in_range_any c.args.self slots [] ∙ c.requires) on.1)
 
 pub returns : goal.returns
 returns c slots =
