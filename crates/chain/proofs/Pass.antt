@@ -2,10 +2,16 @@
 -- Idea: what the FIFOs passed hold needs `busy` cycles, and the next FIFO goes on from there as `need` does. Assumes nothing.
 use Prim.Native.Nat.{ℕ, suc, ◌+◌, ◌-◌, ◌*◌, ◌≤◌, ◌<◌, max}
 use native.Mathlib.Omega.{arith}
-use mathlib.Core.List.{List, [], ◌∷◌}
+use mathlib.Core.List.{List, [], ◌∷◌, reverse}
 use mathlib.Core.Path.{◌≡◌, refl, sym, ◌∙◌, ap}
-use lib.ListN.{length, get_or, drop}
-use lib.Seq.{drop-cons}
+use native.Mathlib.Nat.{zero-add}
+use lib.ListN.{length, get_or, take, drop}
+use lib.Seq.{drop-cons, get_or-take}
+use Rattle.std.specs.List.{enumerate_from}
+use Rattle.std.specs.Ordering.{nat_cmp, ord_max}
+use Rattle.std.proofs.lemmas.Bool.Decides.{nat_tests}
+use Rattle.std.proofs.lemmas.List.{length-reverse, get_or-reverse}
+use Rattle.std.proofs.lemmas.List.FromFn.{length-enumerate_from, get_or-enumerate_from}
 use Rattle.fifo.specs.declared.Fifo.{Fifo}
 use Rattle.fifo.specs.Queue.{Queue, queue_in, plain, empty, max_depth}
 use Rattle.fifo.specs.Promises as fifo
@@ -16,10 +22,13 @@ use Rattle.chain.specs.declared.Chain.{Chain}
 use Rattle.chain.specs.Calls.{queues}
 use Rattle.chain.specs.Promises.{value}
 use Rattle.chain.specs.Timing.{delivery_time}
-use Rattle.chain.proofs.Used.{Formed}
-use Rattle.chain.proofs.Walk.{queues_length, queue_at}
+use Rattle.chain.proofs.Used.{Formed, used_length, queues_length, queue_at}
 use Rattle.chain.proofs.Need.{count, need, need_ahead, need_mouth, need_bound, count_mouth}
 use Rattle.chain.proofs.Timing.{need_time}
+
+-- the greater of two numbers, as the code finds it
+pub greater : (a b : ℕ) → ord_max nat_cmp a b ≡ max a b
+greater a b = grind (arith, nat_tests)
 
 -- The pass so far: the FIFOs nearest the outlet have been passed, and payload i is not among what they hold.
 pub record Passed (qs : List Queue) (i ahead passed busy : ℕ) : Type 0 where
@@ -85,27 +94,45 @@ module _ (q : Queue) (qs : List Queue) (i ahead passed busy held : ℕ) (p : Pas
         p.cycles,
       )
 
--- the FIFO that comes next, before place `left` of the row, and how many it holds
-pub record Next (row : List Queue) (left held : ℕ) : Type 0 where
+-- what a walk from the outlet on comes to after n FIFOs: the next one, and how many it holds
+pub record Next (row : List Queue) (count n ahead held : ℕ) : Type 0 where
+  pub inside : n < count
+  pub number : ahead ≡ n
   pub fifo : Queue
-  pub stands : drop (left - 1) row ≡ fifo ∷ drop left row
-  pub has : held ≡ length (fifo).held
+  pub stands : drop (count - (n + 1)) row ≡ fifo ∷ drop (count - n) row
+  pub has : held ≡ length fifo.held
   pub most : held ≤ max_depth
 
-pub next_fifo : (chain : Chain) → Formed chain → length chain.fifos ≡ max_fifos → (left held : ℕ) (d : Fifo) → 0 < left → left ≤ chain.count
-    → held ≡ length (queue_in (fifo.trusted (get_or chain.fifos (left - 1) d))).held → Next (queues (value chain)) left held
-next_fifo chain f wide left held d some inside counted =
+pub next_fifo : (chain : Chain) → Formed chain → length chain.fifos ≡ max_fifos → (n ahead held : ℕ) (f : Fifo)
+    → let all = enumerate_from 0 (reverse (take chain.count chain.fifos)) in (n < length all) × ((ahead, f) ≡ get_or all n (ahead, f))
+    → held ≡ length (queue_in (fifo.trusted f)).held → Next (queues (value chain)) chain.count n ahead held
+next_fifo chain formed wide n ahead held f turn counted =
     let row = queues (value chain) in
-    let q = get_or row (left - 1) (empty (plain 2)) in
-    let at = queue_at chain f wide (left - 1) d (empty (plain 2)) (omega arith) in
+    let used = take chain.count chain.fifos in
+    let long : length used ≡ chain.count = used_length chain formed wide in
+    let inside : n < length used = omega (arith, turn.0, length-enumerate_from 0 (reverse used), length-reverse used) in
+    let pair = turn.1 ∙ get_or-enumerate_from 0 (reverse used) n (ahead, f) (omega (arith, inside, length-reverse used)) in
+    let place = chain.count - 1 - n in
+    let at_place : f ≡ get_or chain.fifos place f =
+    ap (λ (p : ℕ × Fifo). p.1) pair
+    ∙ get_or-reverse used n f inside
+    ∙ ap (λ (m : ℕ). get_or used (m - 1 - n) f) long
+    ∙ get_or-take chain.count chain.fifos place f (omega (arith, inside, long))
+    in
+    let q = get_or row place (empty (plain 2)) in
+    let at = ap fifo.value at_place ∙ queue_at chain formed wide place f (empty (plain 2)) (omega (arith, inside, long)) in
     let has : held ≡ length q.held = counted ∙ held_of_value _ q at in
     let h = held_within _ q at in
-    let on : suc (left - 1) ≡ left = omega arith in
+    let here : place ≡ chain.count - (n + 1) = omega arith in
+    let on : suc place ≡ chain.count - n = omega (arith, inside, long) in
     record {
+      inside = omega (arith, inside, long);
+      number = ap (λ (p : ℕ × Fifo). p.0) pair ∙ zero-add n;
       fifo = q;
       stands =
-          drop-cons row (left - 1) (empty (plain 2)) (omega (arith, queues_length chain f wide))
-          ∙ ap (λ (n : ℕ). q ∷ drop n row) on;
+          ap (λ (m : ℕ). drop m row) (sym here)
+          ∙ drop-cons row place (empty (plain 2)) (omega (arith, queues_length chain formed wide, inside, long))
+          ∙ ap (λ (m : ℕ). q ∷ drop m row) on;
       has = has;
       most = omega (arith, has, h.within, capacity_most q.place, depth_most q.place h.place);
     }

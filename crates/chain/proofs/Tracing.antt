@@ -6,22 +6,16 @@ use mathlib.Core.List.{List, [], ◌∷◌, ◌++◌, map, map-append}
 use Prim.Native.Nat.{ℕ, zero, suc, ◌+◌, ◌<◌}
 use native.Mathlib.Omega.{arith}
 use native.Mathlib.Numerals.{add-one}
-use lib.Dec.{eqb}
-use lib.ListN.{length, get_or, set, take, drop, length-map}
+use lib.ListN.{length, set, take, drop, length-map}
 use lib.Seq.{take_all, length-take-le}
 use Rattle.signals.specs.declared.Payload.{Payload}
-use Rattle.signals.specs.Stream.{Sample, sample}
+use Rattle.signals.specs.Stream.{Sample}
 use Rattle.signals.proofs.Writing.{writes_one}
 use Rattle.fifo.specs.Queue.{Queue, is_any, shown_as}
 use Rattle.chain.specs.Cycles.{Cycle, shown_in, after, after_all, outlet_in, outlet_trace}
 use Rattle.chain.specs.Calls.{Value, well, is_well, queues, byte_of, recorded, control_byte, data_word}
-use Rattle.chain.specs.Cycling.{Sized, Traced}
+use Rattle.chain.specs.Cycling.{recorded_at, Sized, Traced}
 use Rattle.chain.proofs.Used.{well_row}
-
--- the cycle that three entries record
-abbrev pub recorded_as : (control word sink : ℕ) → Cycle
-recorded_as control word sink =
-    record { valid = (sample control word).valid; payload = (sample control word).payload; sink = eqb sink 1; clear = (sample control word).clear }
 
 pub recorded_length : (cs ws ss : List ℕ) → length ws ≡ length cs → length ss ≡ length cs → length (recorded cs ws ss) ≡ length cs
 recorded_length [] ws ss h k = refl
@@ -30,13 +24,13 @@ recorded_length (c ∷ cs) (w ∷ ws) [] h k = absurd (omega arith)
 recorded_length (c ∷ cs) (w ∷ ws) (s ∷ ss) h k = ap suc (recorded_length cs ws ss (omega arith) (omega arith))
 
 pub recorded_next : (i : ℕ) (cs ws ss : List ℕ) → i < length cs → length ws ≡ length cs → length ss ≡ length cs
-    → take (suc i) (recorded cs ws ss) ≡ take i (recorded cs ws ss) ++ (recorded_as (get_or cs i 0) (get_or ws i 0) (get_or ss i 0) ∷ [])
+    → take (suc i) (recorded cs ws ss) ≡ take i (recorded cs ws ss) ++ (recorded_at cs ws ss i ∷ [])
 recorded_next i [] ws ss b h k = absurd (omega arith)
 recorded_next i (c ∷ cs) [] ss b h k = absurd (omega arith)
 recorded_next i (c ∷ cs) (w ∷ ws) [] b h k = absurd (omega arith)
 recorded_next zero (c ∷ cs) (w ∷ ws) (s ∷ ss) b h k = refl
 recorded_next (suc i) (c ∷ cs) (w ∷ ws) (s ∷ ss) b h k =
-    ap (λ (l : List Cycle). recorded_as c w s ∷ l) (recorded_next i cs ws ss (omega arith) (omega arith) (omega arith))
+    ap (λ (l : List Cycle). recorded_at (c ∷ cs) (w ∷ ws) (s ∷ ss) 0 ∷ l) (recorded_next i cs ws ss (omega arith) (omega arith) (omega arith))
 
 -- one cycle more at the end
 pub after_next : (qs : List Queue) (past : List Cycle) (c : Cycle) → after_all qs (past ++ (c ∷ [])) ≡ after (after_all qs past) c
@@ -74,14 +68,14 @@ module _ (qs : List Queue) (cs ws ss oldControls oldWords : List ℕ) (line : Va
     (sized : Sized cs ws ss oldControls oldWords) (w : Tracing qs (recorded cs ws ss) oldControls oldWords line i controls words) where
   -- one turn: a cycle that leaves the line `next`, its outlet showing `valid` and `payload`
   pub tracing_on : (next : Value) (valid : Bool) (payload : Payload) (byte : ℕ) → i < length cs
-      → let this = recorded_as (get_or cs i 0) (get_or ws i 0) (get_or ss i 0) in
+      → let this = recorded_at cs ws ss i in
       next ≡ well (after (queues line) this)
       → valid ≡ is_any (shown_in (queues line) this) → payload ≡ shown_as (shown_in (queues line) this)
       → byte ≡ byte_of valid this.sink this.clear payload.strb
       → Tracing qs (recorded cs ws ss) oldControls oldWords next (i + 1) (set controls i byte) (set words i payload.«data»)
   tracing_on next valid payload byte h leads shows-valid shows-payload b =
       let past = take i (recorded cs ws ss) in
-      let this = recorded_as (get_or cs i 0) (get_or ws i 0) (get_or ss i 0) in
+      let this = recorded_at cs ws ss i in
       let made : length past ≡ i = length-take-le i (recorded cs ws ss) (omega (arith, recorded_length cs ws ss sized.same_words sized.same_sinks)) in
       let grown : take (i + 1) (recorded cs ws ss) ≡ past ++ (this ∷ []) = rw (add-one i) (recorded_next i cs ws ss h sized.same_words sized.same_sinks) in
       let from : queues line ≡ after_all qs past = ap queues w.at in
@@ -93,7 +87,7 @@ module _ (qs : List Queue) (cs ws ss oldControls oldWords : List ℕ) (line : Va
             rw grown (write_next data_word qs past this i words oldWords payload.«data» made (omega (arith, sized.room_words)) w.writes_words (rw (← from, shows-payload)));
       }
 
-  pub tracing_end : i ≡ length cs → Traced qs cs ws ss oldControls oldWords line controls words
+  pub tracing_end : i ≡ length cs → Traced qs cs ws ss oldControls oldWords controls words line
   tracing_end e =
       let cycles = recorded cs ws ss in
       let long = recorded_length cs ws ss sized.same_words sized.same_sinks in

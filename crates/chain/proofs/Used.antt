@@ -1,131 +1,111 @@
--- The used FIFOs of a chain, from a place on and up to a place, read as values; and a line of values that all have their form.
--- Assumes nothing.
+-- The used FIFOs of a chain, read as values; and a line of values that all have their form. Assumes nothing.
 use mathlib.Core.Path.{◌≡◌, refl, sym, ap, ◌∙◌}
-use mathlib.Core.Bool.{Bool, true, false, ◌&&◌, false≢true}
-use mathlib.Core.List.{List, [], ◌∷◌, ◌++◌, map, map-append}
+use mathlib.Core.Bool.{true, false, false≢true}
+use mathlib.Core.List.{List, [], ◌∷◌, map, map-append}
 use mathlib.Core.Logic.{⊎_elim}
-use Prim.Native.Nat.{ℕ, zero, suc, ◌+◌, ◌-◌, ◌≤◌, ◌<◌}
-use native.Mathlib.Nat.{sub-zero}
+use Prim.Native.Nat.{ℕ, ◌+◌, ◌≤◌, ◌<◌}
 use native.Mathlib.Omega.{arith}
-use native.Mathlib.Numerals.{add-one}
-use borrow.Author.Tests.{leb-true, le-leb}
+use borrow.Author.Tests.{leb-true}
 use lib.Dec.{leb}
-use lib.ListN.{length, get_or, set, take, drop, length-map}
-use lib.Seq.{drop-cons, take-suc-set, length-take-le}
-use Rattle.signals.proofs.Bools.{either, both}
+use lib.ListN.{length, get_or, set, take, length-map}
+use lib.Seq.{length-take-le, get_or-take}
+use Rattle.std.proofs.lemmas.List.{get_or-map, map_more}
+use Rattle.std.proofs.lemmas.Grind.{take-set_at}
+use Rattle.std.specs.List.{list_all}
+use Rattle.signals.proofs.Bools.{either, both, clash}
 use Rattle.fifo.specs.declared.Fifo.{Fifo}
 use Rattle.fifo.specs.Queue as queue
+use Rattle.fifo.specs.Queue.{Queue}
 use Rattle.fifo.specs.Promises as fifo
 use Rattle.places.specs.Listing.{max_fifos, legal_count}
 use Rattle.chain.specs.declared.Chain.{Chain}
 use Rattle.chain.specs.Calls.{Value, ill, well, is_well, queues}
 use Rattle.chain.specs.Promises.{line_of, before, value}
 
--- the values of the FIFOs before place i, and of those from i up to n
-unfoldable pub values_below : List Fifo → ℕ → List queue.Value
-values_below fs i = map fifo.value (take i fs)
+-- a row of values that all have their form, and back
+pub line_of_wells : (qs : List Queue) → line_of (map queue.well qs) ≡ well qs
+line_of_wells [] = refl
+line_of_wells (q ∷ qs) = rw (line_of_wells qs)
 
-unfoldable pub values_from : List Fifo → (i n : ℕ) → List queue.Value
-values_from fs i n = map fifo.value (take (n - i) (drop i fs))
-
-pub from_start : (fs : List Fifo) (n : ℕ) → values_from fs 0 n ≡ map fifo.value (take n fs)
-unfolding values_from
-from_start fs n = rw sub-zero
-
-module _ (fs : List Fifo) (i n : ℕ) where
-  pub from_cons : (d : Fifo) → i < n → n ≤ length fs → values_from fs i n ≡ fifo.value (get_or fs i d) ∷ values_from fs (i + 1) n
-  unfolding values_from
-  from_cons d h k =
-      let e : n - i ≡ suc (n - (i + 1)) = omega arith in
-      rw (e, drop-cons fs i d (omega arith), add-one i)
-
-  pub from_end : n ≤ i → values_from fs i n ≡ []
-  unfolding values_from
-  from_end h = let e : n - i ≡ 0 = omega arith in rw e
-
-  pub below_set : (f : Fifo) → i < length fs → values_below (set fs i f) (i + 1) ≡ values_below fs i ++ (fifo.value f ∷ [])
-  unfolding values_below
-  below_set f h = rw (add-one i, take-suc-set fs i f h, map-append)
-
--- the used FIFOs' values: how many, one of them, and after a store
-pub used_length : (fs : List Fifo) (n : ℕ) → n ≤ length fs → length (values_from fs 0 n) ≡ n
-used_length fs n k = rw (from_start fs n, length-map (take n fs) fifo.value, length-take-le n fs k)
-
-pub used_at : (fs : List Fifo) (n i : ℕ) (d : Fifo) → i < n → n ≤ length fs → get_or (values_from fs 0 n) i queue.ill ≡ fifo.value (get_or fs i d)
-used_at fs n i d h k = rw (from_start fs n) (below fs n i h k)
+pub wells_of_line : (vs : List queue.Value) (qs : List Queue) → line_of vs ≡ well qs → vs ≡ map queue.well qs
+wells_of_line [] qs e = let none : qs ≡ [] = cc in rw none
+wells_of_line (queue.ill ∷ vs) qs e = absurd (clash cc)
+wells_of_line (queue.well q ∷ vs) qs e = by_rest (line_of vs) (wells_of_line vs) refl e
   where
-    below : (fs : List Fifo) (n i : ℕ) → i < n → n ≤ length fs → get_or (map fifo.value (take n fs)) i queue.ill ≡ fifo.value (get_or fs i d)
-    below fs zero i h k = absurd (omega arith)
-    below [] (suc n) i h k = absurd (omega arith)
-    below (f ∷ fs) (suc n) zero h k = refl
-    below (f ∷ fs) (suc n) (suc i) h k = below fs n i (omega arith) (omega arith)
+    by_rest : (rest : Value) → ((rs : List Queue) → line_of vs ≡ well rs → vs ≡ map queue.well rs) → line_of vs ≡ rest → before q rest ≡ well qs
+        → queue.well q ∷ vs ≡ map queue.well qs
+    by_rest ill wells r e = absurd (clash cc)
+    by_rest (well rs) wells r e = let same : q ∷ rs ≡ qs = cc in rw (← same) (ap (λ (l : List queue.Value). queue.well q ∷ l) (wells rs r))
 
-pub used_set : (fs : List Fifo) (n i : ℕ) (f : Fifo) → i < n → n ≤ length fs
-    → set (values_from fs 0 n) i (fifo.value f) ≡ values_from (set fs i f) 0 n
-used_set fs n i f h k = rw (from_start fs n, from_start (set fs i f) n) (below fs n i h k)
-  where
-    below : (fs : List Fifo) (n i : ℕ) → i < n → n ≤ length fs
-        → set (map fifo.value (take n fs)) i (fifo.value f) ≡ map fifo.value (take n (set fs i f))
-    below fs zero i h k = absurd (omega arith)
-    below [] (suc n) i h k = absurd (omega arith)
-    below (g ∷ fs) (suc n) zero h k = refl
-    below (g ∷ fs) (suc n) (suc i) h k = ap (λ (l : List queue.Value). fifo.value g ∷ l) (below fs n i (omega arith) (omega arith))
-
--- a line has its form when its first FIFO has, and the others have
-pub line_well : (v : queue.Value) (vs : List queue.Value) → is_well (line_of (v ∷ vs)) ≡ (queue.is_well v && is_well (line_of vs))
-line_well queue.ill vs = refl
-line_well (queue.well q) vs = by_rest (line_of vs)
+-- a line has its form when each FIFO has
+pub line_well : (vs : List queue.Value) → is_well (line_of vs) ≡ list_all queue.is_well vs
+line_well [] = refl
+line_well (queue.ill ∷ vs) = refl
+line_well (queue.well q ∷ vs) = by_rest (line_of vs) ∙ line_well vs
   where
     by_rest : (rest : Value) → is_well (before q rest) ≡ is_well rest
     by_rest ill = refl
     by_rest (well qs) = refl
-
--- one turn of the walk over the FIFOs' forms: with the FIFO at i of its form or not, and past the last
-module _ (fs : List Fifo) (i n : ℕ) (b : Bool) (so_far : is_well (line_of (values_from fs i n)) ≡ b) where
-  pub well_goes : (d : Fifo) → i < n → n ≤ length fs → queue.is_well (fifo.value (get_or fs i d)) ≡ true → is_well (line_of (values_from fs (i + 1) n)) ≡ b
-  well_goes d h k e = rw (from_cons fs i n d h k, line_well, e) at so_far
-
-  pub well_stops : (d : Fifo) → i < n → n ≤ length fs → queue.is_well (fifo.value (get_or fs i d)) ≡ false → false ≡ b
-  well_stops d h k e = rw (from_cons fs i n d h k, line_well, e) at so_far
-
-  pub well_ends : n ≤ i → true ≡ b
-  well_ends h = rw (from_end fs i n h) at so_far
-
--- a chain of a legal count has the value of its used FIFOs
-pub value_used : (chain : Chain) → legal_count chain.count ≡ true → value chain ≡ line_of (values_from chain.fifos 0 chain.count)
-unfolding value
-value_used chain e = rw (e, from_start)
-
-pub value_uncounted : (chain : Chain) → legal_count chain.count ≡ false → value chain ≡ ill
-unfolding value
-value_uncounted chain e = rw e
 
 -- a value that has its form is that of its row
 pub well_row : (v : Value) → is_well v ≡ true → v ≡ well (queues v)
 well_row ill e = absurd (false≢true e)
 well_row (well qs) e = refl
 
+-- the values of a chain's used FIFOs
+abbrev pub used : Chain → List queue.Value
+used chain = map fifo.value (take chain.count chain.fifos)
+
+-- a chain of a legal count has the value of its used FIFOs
+pub value_used : (chain : Chain) → legal_count chain.count ≡ true → value chain ≡ line_of (used chain)
+unfolding value
+value_used chain e = rw e
+
+pub value_uncounted : (chain : Chain) → legal_count chain.count ≡ false → value chain ≡ ill
+unfolding value
+value_uncounted chain e = rw e
+
 -- what is known of a chain that has its form
 pub record Formed (chain : Chain) : Type 0 where
   pub some : 1 ≤ chain.count
   pub most : chain.count ≤ max_fifos
-  pub row : line_of (values_from chain.fifos 0 chain.count) ≡ well (queues (value chain))
-
-pub legal_count_lem : (chain : Chain) → is_well (value chain) ≡ true → legal_count chain.count ≡ true
-legal_count_lem chain e = ⊎_elim (λ l. l) (λ n. absurd (false≢true (sym (ap is_well (value_uncounted chain n)) ∙ e))) (either (legal_count chain.count))
+  pub legal : legal_count chain.count ≡ true
+  pub row : line_of (used chain) ≡ well (queues (value chain))
 
 pub formed : (chain : Chain) → is_well (value chain) ≡ true → Formed chain
 formed chain e =
-    let l = legal_count_lem chain e in
+    let l = ⊎_elim (λ l. l) (λ n. absurd (false≢true (sym (ap is_well (value_uncounted chain n)) ∙ e))) (either (legal_count chain.count)) in
     let b = both (leb 1 chain.count) (leb chain.count max_fifos) l in
     record {
       some = leb-true 1 chain.count b.0;
       most = leb-true chain.count max_fifos b.1;
+      legal = l;
       row = sym (value_used chain l) ∙ well_row (value chain) e;
     }
 
--- and a chain of a legal count whose used FIFOs make a row has that row for its value
-pub row_value : (chain : Chain) (qs : List queue.Queue) → 1 ≤ chain.count → chain.count ≤ max_fifos
-    → line_of (values_from chain.fifos 0 chain.count) ≡ well qs → value chain ≡ well qs
-row_value chain qs some most e =
-    value_used chain (rw (le-leb 1 chain.count some, le-leb chain.count max_fifos most)) ∙ e
+-- its row is as long as its count says, and has at each place the queue of the FIFO there
+module _ (chain : Chain) (f : Formed chain) (wide : length chain.fifos ≡ max_fifos) where
+  pub used_length : length (take chain.count chain.fifos) ≡ chain.count
+  used_length = length-take-le chain.count chain.fifos (omega (arith, f.most, wide))
+
+  used_wells : used chain ≡ map queue.well (queues (value chain))
+  used_wells = wells_of_line _ _ f.row
+
+  pub queues_length : length (queues (value chain)) ≡ chain.count
+  queues_length =
+      sym (ap length used_wells ∙ length-map (queues (value chain)) queue.well)
+      ∙ length-map (take chain.count chain.fifos) fifo.value
+      ∙ used_length
+
+  pub queue_at : (j : ℕ) (d : Fifo) (e : Queue) → j < chain.count
+      → fifo.value (get_or chain.fifos j d) ≡ queue.well (get_or (queues (value chain)) j e)
+  queue_at j d e h =
+      ap fifo.value (sym (get_or-take chain.count chain.fifos j d h))
+      ∙ sym (get_or-map fifo.value (take chain.count chain.fifos) j d queue.ill (omega (arith, used_length, h)))
+      ∙ ap (λ (vs : List queue.Value). get_or vs j queue.ill) used_wells
+      ∙ get_or-map queue.well (queues (value chain)) j e queue.ill (omega (arith, queues_length, h))
+
+-- two lists agree up to a place, and at the place once it is stored there
+pub agree_more : {A B V : Type 0} (f : A → V) (g : B → V) (xs : List A) (ys : List B) (i : ℕ) (x : A) (d : B) → i < length xs → i < length ys
+    → map f (take i xs) ≡ map g (take i ys) → f x ≡ g (get_or ys i d) → map f (take (i + 1) (set xs i x)) ≡ map g (take (i + 1) ys)
+agree_more f g xs ys i x d h k e same = rw (take-set_at xs i (i + 1) x refl h, map-append, map_more g ys i d k, e, same)

@@ -3,58 +3,21 @@
 use mathlib.Core.Path.{◌≡◌, refl, sym, ap, ◌∙◌}
 use mathlib.Core.Bool.{Bool, true, false, cond}
 use mathlib.Core.List.{List, [], ◌∷◌, ◌++◌, map, map-append, append_assoc, append-nil}
-use Prim.Native.Nat.{ℕ, zero, suc, ◌+◌, ◌≤◌, ◌<◌}
+use Prim.Native.Nat.{ℕ, ◌+◌, ◌≤◌, ◌<◌}
 use native.Mathlib.Omega.{arith}
 use native.Mathlib.Numerals.{add-one}
-use lib.ListN.{length, get_or, set, take, drop, length-map, drop_of_length-le}
+use lib.ListN.{length, get_or, set, take, drop, drop_of_length-le}
 use lib.Seq.{take_all, drop-cons, drop-set-lt, take-suc-set}
 use Rattle.signals.specs.declared.Payload.{Payload}
 use Rattle.signals.specs.Payloads.{zeros, legal_strb}
 use Rattle.signals.proofs.Bools.{clash}
-use Rattle.fifo.specs.declared.Fifo.{Fifo}
 use Rattle.fifo.specs.Queue as queue
-use Rattle.fifo.specs.Queue.{Queue, ready_of, when, is_any, shown, shown_as, next, emptied}
-use Rattle.fifo.specs.Promises as fifo
-use Rattle.fifo.proofs.Stepping.{ready_of_value, shown_offered, Served}
-use Rattle.places.specs.Listing.{max_fifos}
-use Rattle.chain.specs.declared.Chain.{Chain}
+use Rattle.fifo.specs.Queue.{Queue, ready, when, is_any, shown, shown_as, next, emptied}
+use Rattle.fifo.proofs.Stepping.{shown_offered, Served}
 use Rattle.chain.specs.Line.{mouth, cycle, outlet}
-use Rattle.chain.specs.Calls.{Value, ill, well, queues}
-use Rattle.chain.specs.Promises.{line_of, before, value}
-use Rattle.chain.proofs.Used.{values_from, from_cons, used_length, used_at, Formed}
-
--- a row of values that all have their form, and back
-pub line_of_wells : (qs : List Queue) → line_of (map queue.well qs) ≡ well qs
-line_of_wells [] = refl
-line_of_wells (q ∷ qs) = rw (line_of_wells qs)
-
-pub wells_of_line : (vs : List queue.Value) (qs : List Queue) → line_of vs ≡ well qs → vs ≡ map queue.well qs
-wells_of_line [] qs e = let none : qs ≡ [] = cc in rw none
-wells_of_line (queue.ill ∷ vs) qs e = absurd (clash cc)
-wells_of_line (queue.well q ∷ vs) qs e = by_rest (line_of vs) (wells_of_line vs) refl e
-  where
-    by_rest : (rest : Value) → ((rs : List Queue) → line_of vs ≡ well rs → vs ≡ map queue.well rs) → line_of vs ≡ rest → before q rest ≡ well qs
-        → queue.well q ∷ vs ≡ map queue.well qs
-    by_rest ill wells r e = absurd (clash cc)
-    by_rest (well rs) wells r e = let same : q ∷ rs ≡ qs = cc in rw (← same) (ap (λ (l : List queue.Value). queue.well q ∷ l) (wells rs r))
-
--- the value at a place of such a row
-pub well_at : (qs : List Queue) (j : ℕ) (d : Queue) → j < length qs → get_or (map queue.well qs) j queue.ill ≡ queue.well (get_or qs j d)
-well_at [] j d h = absurd (omega arith)
-well_at (q ∷ qs) zero d h = refl
-well_at (q ∷ qs) (suc j) d h = well_at qs j d (omega arith)
-
--- a chain's ready is its first FIFO's
-pub first_ready : (chain : Chain) (d : Fifo) (sink : Bool) → Formed chain → length chain.fifos ≡ max_fifos
-    → ready_of (fifo.trusted (get_or chain.fifos 0 d)) ≡ mouth (queues (value chain)) sink
-first_ready chain d sink f wide =
-    let used = from_cons chain.fifos 0 chain.count d f.some (omega (arith, f.most)) in
-    of_row (queues (value chain)) (sym used ∙ wells_of_line _ _ f.row)
-  where
-    of_row : {vs : List queue.Value} (qs : List Queue) → fifo.value (get_or chain.fifos 0 d) ∷ vs ≡ map queue.well qs
-        → ready_of (fifo.trusted (get_or chain.fifos 0 d)) ≡ mouth qs sink
-    of_row [] e = absurd (clash cc)
-    of_row (q ∷ qs) e = ready_of_value _ q cc
+use Rattle.chain.specs.Calls.{well}
+use Rattle.chain.specs.Promises.{line_of}
+use Rattle.chain.proofs.Used.{line_of_wells, wells_of_line}
 
 -- the queues of the FIFOs served, and of those left
 pub record Split (vs : List queue.Value) (i : ℕ) (served left : List Queue) : Type 0 where
@@ -89,10 +52,10 @@ module _ (vs : List queue.Value) (i : ℕ) where
       by_left [] e = absurd (clash cc)
       by_left (q ∷ qs) e = record { first = q; others = qs; stands = refl; has = cc; behind = cc }
 
-  -- it is ready to what stands before it
-  pub mouth_ready : (left : List Queue) (sink : Bool) → i < length vs → drop i vs ≡ map queue.well left
-      → ready_of (get_or vs i queue.ill) ≡ mouth left sink
-  mouth_ready left sink h e = let f = front left h e in rw (f.stands, f.has)
+  -- what is ready as it is, is ready to what stands before it
+  pub mouth_ready : (left : List Queue) (sink is-ready : Bool) → i < length vs → drop i vs ≡ map queue.well left
+      → ((q : Queue) → get_or vs i queue.ill ≡ queue.well q → is-ready ≡ ready q) → is-ready ≡ mouth left sink
+  mouth_ready left sink is-ready h e is = let f = front left h e in rw f.stands (is f.first f.has)
 
   pub mouth_sink : (left : List Queue) (sink : Bool) → length vs ≤ i → drop i vs ≡ map queue.well left → sink ≡ mouth left sink
   mouth_sink left sink h e = rw (none_left left h e)
@@ -106,32 +69,6 @@ module _ (vs : List queue.Value) (i : ℕ) where
         below = rw (add-one i, take-suc-set vs i (queue.well q) h, below, map-append);
         from = drop-set-lt (i + 1) vs i (queue.well q) (omega arith) ∙ from;
       }
-
--- a used FIFO of a chain is ready to what stands before it
-pub used_ready : (fs : List Fifo) (n i : ℕ) (d : Fifo) (others : List Queue) (sink : Bool) → i < n → n ≤ length fs
-    → drop i (values_from fs 0 n) ≡ map queue.well others → ready_of (fifo.trusted (get_or fs i d)) ≡ mouth others sink
-used_ready fs n i d others sink h k e =
-    let vs = values_from fs 0 n in
-    let inside : i < length vs = omega (arith, used_length fs n k) in
-    let f = front vs i others inside e in
-    ready_of_value _ f.first (sym (used_at fs n i d h k) ∙ f.has) ∙ sym (ap ready_of f.has) ∙ mouth_ready vs i others sink inside e
-
--- the row of a chain that has its form is as long as its count says, and has at each place the queue of the FIFO there
-module _ (chain : Chain) (f : Formed chain) (wide : length chain.fifos ≡ max_fifos) where
-  used_wells : values_from chain.fifos 0 chain.count ≡ map queue.well (queues (value chain))
-  used_wells = wells_of_line _ _ f.row
-
-  pub queues_length : length (queues (value chain)) ≡ chain.count
-  queues_length =
-      sym (ap length used_wells ∙ length-map (queues (value chain)) queue.well)
-      ∙ used_length chain.fifos chain.count (omega (arith, f.most))
-
-  pub queue_at : (j : ℕ) (d : Fifo) (e : Queue) → j < chain.count
-      → fifo.value (get_or chain.fifos j d) ≡ queue.well (get_or (queues (value chain)) j e)
-  queue_at j d e h =
-      sym (used_at chain.fifos chain.count j d h (omega (arith, f.most)))
-      ∙ ap (λ (vs : List queue.Value). get_or vs j queue.ill) used_wells
-      ∙ well_at (queues (value chain)) j e (omega (arith, queues_length))
 
 -- so far in a cycle: what is served is as the rule leaves it, and the rest of the row, fed with what is handed on, makes the rule's row and
 -- outlet
@@ -264,6 +201,13 @@ pub walking_legal : (clear : Bool) (row : List Queue) (source : List Payload) (s
 unfolding Walking
 walking_legal true row source sink vs i offers p w = w.legal
 walking_legal false row source sink vs i offers p w = w.legal
+
+-- the FIFO at i has its form
+pub walking_front : (clear : Bool) (row : List Queue) (source : List Payload) (sink : Bool) (vs : List queue.Value) (i : ℕ)
+    (offers : Bool) (p : Payload) → i < length vs → Walking clear row source sink vs i offers p → (q : Queue) × (get_or vs i queue.ill ≡ queue.well q)
+unfolding Walking
+walking_front true row source sink vs i offers p h w = let f = front vs i w.left h w.split.from in (f.first, f.has)
+walking_front false row source sink vs i offers p h w = let f = front vs i w.left h w.split.from in (f.first, f.has)
 
 pub walking_end : (clear : Bool) (row : List Queue) (source : List Payload) (sink : Bool) (vs : List queue.Value) (i : ℕ)
     (offers : Bool) (p : Payload) → 0 < i → length vs ≤ i → Walking clear row source sink vs i offers p → Ended clear row source sink vs offers p

@@ -2,16 +2,10 @@
 -- Assumes nothing.
 use Rattle.std.specs.Prelude.{Bool, false, cond, List, [], ◌∷◌, map}
 use Rattle.signals.specs.declared.Payload.{Payload}
+pub use Rattle.signals.specs.declared.Cycle.{Cycle}
 use Rattle.signals.specs.Stream.{Sample}
 use Rattle.fifo.specs.Queue.{Queue, when, is_any, shown_as, emptied}
 use Rattle.chain.specs.Line.{mouth, cycle, outlet}
-
--- What a line is given in one cycle.
-pub record Cycle : Type 0 where
-  pub valid : Bool
-  pub payload : Payload
-  pub sink : Bool
-  pub clear : Bool
 
 abbrev pub offered : Cycle → List Payload
 offered c = when c.valid (c.payload ∷ [])

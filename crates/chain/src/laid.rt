@@ -1,64 +1,95 @@
-// A chain's FIFOs in lent memory, where a run's cycles copy no slot but the one that a payload joins.
-//
-// FIFO j has part j of the words and of the strobes, and each part is as long as the deepest FIFO.
-ghost use Rattle.std.specs.Prelude.{◌≡◌, true};
+// A chain's FIFOs in memory of a run, whose cycles copy no slot but the one that a payload joins.
+ghost use Rattle.std.specs.Prelude.{◌≡◌, true, map, take};
+ghost use Rattle.fifo.specs.Queue.{Queue, well};
+ghost use Rattle.fifo.specs.Promises.{value as fifo_value};
 ghost use Rattle.places.specs.Listing.{legal_count};
 ghost use Rattle.chain.specs.Calls.{is_well};
-ghost use Rattle.chain.specs.Promises.{value};
-ghost use Rattle.chain.specs.Cycling.{Roomy, line_in};
+ghost use Rattle.chain.specs.Promises.{value, line_of};
+ghost use Rattle.chain.specs.Cycling.{part_value};
 
 use super::Chain;
-use fifo::{MAX_DEPTH, Pointers, SMALLEST};
+use super::stage::Stage;
+use fifo::{Fifo, MAX_DEPTH, Pointers, SMALLEST};
 use places::MAX_FIFOS;
+use signals::Cycle;
 
-// The slots of all parts.
-pub(crate) const SLOTS: usize = MAX_FIFOS * MAX_DEPTH;
+// A FIFO with memory of its own.
+#[derive(Clone, Copy)]
+pub(crate) struct Part {
+    pointers: Pointers,
+    words: [u32; MAX_DEPTH],
+    strbs: [u8; MAX_DEPTH],
+}
 
-impl Chain {
-    // Lays the used FIFOs in the memory.
-    pub(crate) fn laid_out(self, words: &mut [u32], strbs: &mut [u8]) -> [Pointers; MAX_FIFOS]
-        requires self_value { is_well (value self) ≡ true }
-        requires roomy { Roomy words.old strbs.old }
-        ensures { line_in self.count result words.new strbs.new ≡ value self }
+// The part of no FIFO.
+pub(crate) const UNUSED: Part = Part {
+    pointers: Pointers {
+        place: SMALLEST,
+        count: 0,
+        oldest: 0,
+    },
+    words: [0; MAX_DEPTH],
+    strbs: [0; MAX_DEPTH],
+};
+
+impl Part {
+    // Lays a FIFO that has its form in this part.
+    fn lay(&mut self, fifo: Fifo)
+        ensures { (q : Queue) → fifo_value fifo ≡ well q → part_value self.new ≡ well q }
     {
-        self.has_all();
-        let count = self.count;
-        let unused = Pointers {
-            place: SMALLEST,
-            count: 0,
-            oldest: 0,
-        };
-        let mut fifos = [unused; MAX_FIFOS];
-        let mut j = 0;
-        while j < count {
-            let f = self.fifos[j];
-            let start = j * MAX_DEPTH;
-            let end = start + MAX_DEPTH;
-            let p = f.laid_in(&mut words[start..end], &mut strbs[start..end]);
-            fifos[j] = p;
-            j += 1;
-        }
-        fifos
+        self.pointers = fifo.laid_in(&mut self.words, &mut self.strbs);
     }
 
-    // This chain, with the used FIFOs as they lie in the memory.
-    pub(crate) fn gathered(self, fifos: [Pointers; MAX_FIFOS], words: &[u32], strbs: &[u8]) -> Chain
-        requires count_value { legal_count self.count ≡ true }
-        requires roomy { Roomy words.now strbs.now }
-        ensures { value result ≡ line_in self.count fifos words.now strbs.now }
+    // The FIFO that lies in a part.
+    fn gathered(&self) -> Fifo
+        ensures { fifo_value result ≡ part_value self.now }
     {
-        self.has_all();
-        let mut chain = self;
-        let count = chain.count;
-        let mut j = 0;
-        while j < count {
-            let p = fifos[j];
-            let start = j * MAX_DEPTH;
-            let end = start + MAX_DEPTH;
-            let f = p.gathered(&words[start..end], &strbs[start..end]);
-            chain.fifos[j] = f;
-            j += 1;
+        self.pointers.gathered(&self.words, &self.strbs)
+    }
+}
+
+impl Stage for Part {
+    ghost value_of = { part_value };
+
+    fn is_ready(&self) -> bool {
+        self.pointers.is_ready()
+    }
+
+    fn step(&mut self, cycle: Cycle) -> Cycle {
+        match self.pointers.step(&mut self.words, &mut self.strbs, cycle) {
+            Ok(stepped) => {
+                self.pointers = stepped.next;
+                Cycle {
+                    valid: stepped.valid,
+                    payload: stepped.payload,
+                    ..cycle
+                }
+            }
+            Err(_) => cycle,
         }
-        chain
+    }
+}
+
+impl Chain {
+    // Lays the used FIFOs, each in a part.
+    pub(crate) fn lay_out(&self, parts: &mut [Part; MAX_FIFOS])
+        requires { is_well (value self.now) ≡ true }
+        ensures { line_of (map part_value (take self.now.count parts.new)) ≡ value self.now }
+    {
+        // By index, since the prover does not know what `iter_mut` in a `zip` leaves in the parts.
+        for j in 0..self.count {
+            parts[j].lay(self.fifos[j]);
+        }
+    }
+
+    // Puts the used FIFOs back as they lie in the parts.
+    pub(crate) fn gather(&mut self, parts: &[Part; MAX_FIFOS])
+        requires { legal_count self.old.count ≡ true }
+        ensures { value self.new ≡ line_of (map part_value (take self.old.count parts.now)) }
+    {
+        // By index, for the same reason.
+        for j in 0..self.count {
+            self.fifos[j] = parts[j].gathered();
+        }
     }
 }

@@ -5,25 +5,24 @@
 // stand in the crate `demand3`.
 #![tactic(auto)]
 
-mod cycle;
-mod empty;
 mod form;
 mod laid;
+mod stage;
 mod time;
 mod trace;
 
-ghost use Rattle.std.specs.Prelude.{◌≡◌, false};
-ghost use Rattle.signals.specs.declared.Outcome.TheVariants.{Refused};
-ghost use Rattle.signals.specs.Payloads.{zeros};
-ghost use Rattle.places.specs.Listing.{places_of};
-ghost use Rattle.chain.specs.Promises.{Made, Promised, step_done, run_done, Times};
+ghost use Rattle.std.specs.Prelude.{◌≡◌, [], ◌∷◌};
+ghost use Rattle.fifo.specs.Queue.{plain, empty};
+ghost use Rattle.chain.specs.Calls.{well};
+ghost use Rattle.chain.specs.Promises.{value, Made, Promised, step_done, run_done};
 
-use empty::is_accepted;
 use fifo::{Fifo, Place};
-use places::{MAX_FIFOS, Places, is_legal_count};
-use signals::{MAX_STRB, Outcome, Payload, Refusal};
+use places::{MAX_FIFOS, is_legal_count};
+use signals::{Cycle, MAX_STRB, Refusal, Stepped};
+use stage::walk;
+use trace::Trace;
 
-// A chain of FIFOs, document 01's line: the first `count` of them, the mouth's first.
+// A chain of FIFOs, document 01's line: the first `count` of them, the mouth's first. The C interface lays it out so.
 #[repr(C)]
 #[derive(Clone, Copy)]
 pub struct Chain {
@@ -31,71 +30,54 @@ pub struct Chain {
     pub fifos: [Fifo; MAX_FIFOS],
 }
 
-#[derive(Clone, Copy)]
-pub struct NewChain {
-    pub outcome: Outcome,
-    pub chain: Chain,
-}
-
-// What a step shows, and the chain after it.
-#[derive(Clone, Copy)]
-pub struct Stepped {
-    pub outcome: Outcome,
-    pub ready: bool,
-    pub valid: bool,
-    pub payload: Payload,
-    pub next: Chain,
-}
-
-// How a run ended, and the chain after it.
-#[derive(Clone, Copy)]
-pub struct Ran {
-    pub outcome: Outcome,
-    pub next: Chain,
-}
-
-// After how many cycles a payload is delivered; 0 means this very cycle.
-#[derive(Clone, Copy)]
-pub struct DeliveryTime {
-    pub outcome: Outcome,
-    pub cycles: usize,
-}
-
 impl Chain {
-    // A chain of empty FIFOs, the mouth's place first. Refused, it is one plain FIFO of depth 2.
-    pub fn new(places: &[Place]) -> NewChain
+    // A chain of empty FIFOs, the mouth's place first.
+    pub fn new(places: &[Place]) -> Result<Chain, Refusal>
         ensures { Made places.now result }
     {
-        let read = Places::read(places);
-        Chain::at(read)
+        if !is_legal_count(places.len()) {
+            return Err(Refusal::BadCount);
+        }
+        let mut fifos = [Fifo::smallest(); MAX_FIFOS];
+        for (i, place) in places.iter().enumerate() {
+            fifos[i] = Fifo::new(*place)?;
+        }
+        Ok(Chain {
+            count: places.len(),
+            fifos,
+        })
     }
 
-    // The same by value, for a caller who has no list to lend. Places past the count are not looked at.
-    pub fn at(places: Places) -> NewChain
-        ensures { Made (places_of places) result }
+    // What a caller has where a new chain was refused: one empty plain FIFO of depth 2.
+    pub fn shortest() -> Chain
+        ensures { value result ≡ well (empty (plain 2) ∷ []) }
     {
-        if is_legal_count(places.count) {
-            let listed = places.listed;
-            return Chain::at_each(listed, places.count);
-        }
-        NewChain {
-            outcome: Outcome::Refused(Refusal::BadCount),
-            chain: Chain::shortest(),
+        Chain {
+            count: 1,
+            fifos: [Fifo::smallest(); MAX_FIFOS],
         }
     }
 
-    // One cycle of a chain that has its form; the held strobes are looked at first.
-    pub fn step(self, valid: bool, payload: Payload, sink: bool, clear: bool) -> Stepped
-        ensures { Promised self (step_done valid payload sink clear result) }
+    // One cycle of a chain that has its form; the held strobes are looked at first. The FIFOs step by value, since for one cycle laying
+    // them out does not pay. The mouth is ready as its FIFO is, and not in a clear.
+    pub fn step(self, cycle: Cycle) -> Result<Stepped<Chain>, Refusal>
+        ensures { Promised self (step_done self cycle result) }
     {
-        let legal = payload.strb <= MAX_STRB;
-        if self.is_well() {
-            if legal {
-                return self.advance(valid, payload, sink, clear);
-            }
-            return self.silent(Refusal::IllegalBits);
+        if !self.is_well() {
+            return Err(Refusal::BadState);
         }
-        self.silent(Refusal::BadState)
+        if MAX_STRB < cycle.payload.strb {
+            return Err(Refusal::IllegalBits);
+        }
+        let Chain { count, mut fifos } = self;
+        let ready = !cycle.clear & fifos[0].is_ready();
+        let shown = walk(&mut fifos[..count], cycle);
+        Ok(Stepped {
+            ready,
+            valid: shown.valid,
+            payload: shown.payload,
+            next: Chain { count, fifos },
+        })
     }
 
     // A cycle for each entry of the recorded offer, which may be a clear, and of the sink's readies. The outlet's trace goes into
@@ -107,48 +89,15 @@ impl Chain {
         sink: &[u8],
         out_control: &mut [u8],
         out_data: &mut [u32],
-    ) -> Ran
-        ensures { Promised self (run_done control.now «data».now sink.now out_control.old out_data.old result out_control.new out_data.new) }
+    ) -> Result<Chain, Refusal>
+        ensures { Promised self (run_done self control.now «data».now sink.now out_control.old out_data.old result out_control.new out_data.new) }
     {
-        let outcome = self.refusal(control, data, sink, out_control.len(), out_data.len());
-        if is_accepted(outcome) {
-            let next = self.traced(control, data, sink, out_control, out_data);
-            return Ran {
-                outcome: outcome,
-                next: next,
-            };
-        }
-        Ran {
-            outcome: outcome,
-            next: self,
-        }
-    }
-
-    // When payload i is delivered, held payloads being numbered from the outlet, 0 first, to a sink that is ready in this cycle and in
-    // every later one, with no clear. What is offered meanwhile does not alter it.
-    pub fn delivery_time(self, i: usize) -> DeliveryTime
-        ensures { Times self i result }
-    {
-        if !self.is_well() {
-            return DeliveryTime {
-                outcome: Outcome::Refused(Refusal::BadState),
-                cycles: 0,
-            };
-        }
-        self.time_of(i)
-    }
-
-    // A refused step: it shows nothing, and leaves this chain.
-    fn silent(self, why: Refusal) -> Stepped
-        ensures { result ≡ record { outcome = Refused why; ready = false; valid = false; payload = zeros; next = self } }
-    {
-        let nothing = Payload { data: 0, strb: 0 };
-        Stepped {
-            outcome: Outcome::Refused(why),
-            ready: false,
-            valid: false,
-            payload: nothing,
-            next: self,
-        }
+        let trace = Trace {
+            control,
+            data,
+            sink,
+        };
+        self.refusal(trace, out_control, out_data)?;
+        Ok(self.traced(trace, out_control, out_data))
     }
 }

@@ -6,41 +6,40 @@ ghost use Rattle.std.specs.Prelude.{◌≡◌, true};
 ghost use Rattle.chain.specs.Calls.{is_well};
 ghost use Rattle.chain.specs.Promises.{value, Times};
 
-use super::{Chain, DeliveryTime};
-use signals::{Outcome, Refusal};
+use super::Chain;
+use signals::Refusal;
 
 impl Chain {
-    // The walk goes from the outlet to the mouth: `ahead` FIFOs have been passed, in which `passed` payloads are held, and these are gone
-    // after `busy` cycles.
-    pub(crate) fn time_of(self, i: usize) -> DeliveryTime
-        requires { is_well (value self) ≡ true }
+    // When payload i is delivered, held payloads being numbered from the outlet, 0 first, to a sink that is ready in this cycle and in
+    // every later one, with no clear; 0 means this very cycle. What is offered meanwhile does not alter it.
+    pub fn delivery_time(self, i: usize) -> Result<usize, Refusal>
         ensures { Times self i result }
     {
-        self.has_all();
-        let mut left = self.count;
-        let mut ahead: usize = 0;
-        let mut passed: usize = 0;
-        let mut busy: usize = 0;
-        while 0 < left {
-            left -= 1;
-            let f = self.fifos[left];
-            let held = f.held();
+        if !self.is_well() {
+            return Err(Refusal::BadState);
+        }
+        self.time_of(i)
+    }
+
+    // The walk goes from the outlet to the mouth: `ahead` FIFOs have been passed, in which `passed` payloads are held, and these are gone
+    // after `busy` cycles.
+    fn time_of(&self, i: usize) -> Result<usize, Refusal>
+        requires { is_well (value self.now) ≡ true }
+        ensures { Times self.now i result }
+    {
+        let mut passed = 0;
+        let mut busy = 0;
+        for (ahead, fifo) in self.fifos[..self.count].iter().rev().enumerate() {
+            let held = fifo.held();
             if 0 < held {
-                let first = if busy < ahead { ahead } else { busy };
+                let first = busy.max(ahead);
                 if i - passed < held {
-                    return DeliveryTime {
-                        outcome: Outcome::Accepted,
-                        cycles: first + (i - passed),
-                    };
+                    return Ok(first + (i - passed));
                 }
                 busy = first + held;
                 passed += held;
             }
-            ahead += 1;
         }
-        DeliveryTime {
-            outcome: Outcome::Refused(Refusal::OutOfRange),
-            cycles: 0,
-        }
+        Err(Refusal::OutOfRange)
     }
 }

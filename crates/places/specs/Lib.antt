@@ -1,3 +1,2 @@
--- How many places there may be and what reading them promises; and `Blank` for the private functions.
+-- How many FIFOs a line has.
 pub mod Listing
-pub mod Blank

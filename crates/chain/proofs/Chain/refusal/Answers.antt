@@ -1,11 +1,14 @@
--- `Chain::refusal` meets its contract: the tests follow document 01's order of the refusals of a run. Assumes nothing.
-use borrow.Author.Tests.{lt-ltb, le-ltb}
+-- The tests follow document 01's order of the refusals of a run; past the bits the room of the outputs is left to test. Assumes nothing.
+use borrow.Author.Tests.{le-ltb}
 use Prim.Native.Nat.{ℕ, ◌≤◌}
-use mathlib.Core.Bool.{Bool, true, false, ◌&&◌, ◌||◌}
+use mathlib.Core.Bool.{Bool, true, false, not, ◌&&◌, ◌||◌}
 use mathlib.Core.List.{List}
-use mathlib.Core.Path.{◌≡◌, sym, ◌∙◌}
+use mathlib.Core.Path.{◌≡◌, refl, sym, ◌∙◌}
 use lib.Dec.{eqb, ltb}
 use lib.ListN.{length, drop}
+use Rattle.std.proofs.Common.{rules, tests}
+use Rattle.std.proofs.lemmas.Iterator.{YieldsList-from_slice}
+use Rattle.std.proofs.lemmas.Iterator.Search.{any_from_yields_List}
 use Rattle.signals.specs.Refusals.{max_cycles, any_of}
 use Rattle.signals.specs.Stream.{reserved_bit}
 use Rattle.signals.specs.Tables.{first_applying}
@@ -13,58 +16,36 @@ use Rattle.chain.specs.Calls.{is_well, run_grounds}
 use Rattle.chain.specs.Promises.{value}
 use Rattle.chain.proofs.Chain.refusal.Goals as goal
 
--- of a chain that has its form, the bits and then the room of the outputs are left to test
-bits_left : (form : Bool) (controls words sinks out_controls out_words : List ℕ)
-    → (eqb (length words) (length controls) && eqb (length sinks) (length controls)) ≡ true → length controls ≤ max_cycles → form ≡ true
-    → let rows = run_grounds form controls words sinks out_controls out_words in first_applying rows ≡ first_applying (drop 3 rows)
-bits_left form controls words sinks out_controls out_words same few formed = rw (same, le-ltb _ _ few, formed)
+not_both : (a b : Bool) → not (a && b) ≡ (not a || not b)
+not_both true b = refl
+not_both false b = refl
 
--- and past the bits, the room alone
 room_left : (form : Bool) (controls words sinks out_controls out_words : List ℕ)
-    → (eqb (length words) (length controls) && eqb (length sinks) (length controls)) ≡ true → length controls ≤ max_cycles → form ≡ true
-    → (any_of reserved_bit controls || any_of (λ s. ltb 1 s) sinks) ≡ false
+    → (not (eqb (length words) (length controls)) || not (eqb (length sinks) (length controls))) ≡ false → length controls ≤ max_cycles
+    → form ≡ true → (any_of reserved_bit controls || any_of (λ s. ltb 1 s) sinks) ≡ false
     → let rows = run_grounds form controls words sinks out_controls out_words in first_applying rows ≡ first_applying (drop 4 rows)
-room_left form controls words sinks out_controls out_words same few formed legal =
-    rw (bits_left form controls words sinks out_controls out_words same few formed, legal)
+room_left form controls words sinks out_controls out_words same few formed legal = rw (not_both, same, le-ltb _ _ few, formed, legal)
 
-pub returns-then-cycles-gt-MAX_CYCLES : goal.returns-then-cycles-gt-MAX_CYCLES
-returns-then-cycles-gt-MAX_CYCLES c out_controls out_words h k = rw (c.if-same.true, lt-ltb _ _ c.if-cycles-gt-MAX_CYCLES.true)
-
-pub returns-then-any_reserved-any_above_one : goal.returns-then-any_reserved-any_above_one
-returns-then-any_reserved-any_above_one c out_controls out_words h k =
+pub returns-then-out_control-cycles : goal.returns-then-out_control-cycles
+returns-then-out_control-cycles c =
     let a = c.args in
+    let any : c.any.result ≡ any_of (λ s. ltb 1 s) a.trace.sink.now =
+    any_from_yields_List (λ s. ltb 1 s) _ _ c.any.result c.any.ensures.ran (YieldsList-from_slice a.trace.sink.now cc) (λ x b q k. search (rules, tests))
+    in
     rw (
-      bits_left (is_well (value a.self)) a.control.now a.«data».now a.sink.now out_controls out_words c.if-same.true c.if-cycles-gt-MAX_CYCLES.false (sym c.is_well.ensures ∙ c.if-is_well.true),
-      ← c.any_reserved.ensures,
-      ← c.any_above_one.ensures,
-      c.if-any_reserved-any_above_one.true,
+      room_left (is_well (value a.self.now)) a.trace.control.now a.trace.«data».now a.trace.sink.now a.out_control.now a.out_data.now c.if-trace-cycles.false c.if-cycles-gt-MAX_CYCLES.false (sym c.is_well.ensures.value ∙ c.if-not-is_well.false)
+          (rw (c.any_reserved.ensures, any) at c.if-any_reserved-any.false),
+      c.if-out_control-cycles.true,
     )
-
-pub returns-then-room_control-cycles : goal.returns-then-room_control-cycles
-returns-then-room_control-cycles c out_controls out_words h k =
-    let a = c.args in
-    rw (
-      room_left (is_well (value a.self)) a.control.now a.«data».now a.sink.now out_controls out_words c.if-same.true c.if-cycles-gt-MAX_CYCLES.false (sym c.is_well.ensures ∙ c.if-is_well.true)
-          (rw (c.any_reserved.ensures, c.any_above_one.ensures) at c.if-any_reserved-any_above_one.false),
-      h,
-      k,
-      c.if-room_control-cycles.true,
-    )
-
-pub returns-then-is_well : goal.returns-then-is_well
-returns-then-is_well c out_controls out_words h k =
-    let a = c.args in
-    rw (
-      room_left (is_well (value a.self)) a.control.now a.«data».now a.sink.now out_controls out_words c.if-same.true c.if-cycles-gt-MAX_CYCLES.false (sym c.is_well.ensures ∙ c.if-is_well.true)
-          (rw (c.any_reserved.ensures, c.any_above_one.ensures) at c.if-any_reserved-any_above_one.false),
-      h,
-      k,
-      c.if-room_control-cycles.false,
-    )
-
-pub returns-then-same : goal.returns-then-same
-returns-then-same c out_controls out_words h k =
-    rw (c.if-same.true, le-ltb _ _ c.if-cycles-gt-MAX_CYCLES.false, ← c.is_well.ensures, c.if-is_well.false)
 
 pub returns : goal.returns
-returns c out_controls out_words h k = rw c.if-same.false
+returns c =
+    let a = c.args in
+    let any : c.any.result ≡ any_of (λ s. ltb 1 s) a.trace.sink.now =
+    any_from_yields_List (λ s. ltb 1 s) _ _ c.any.result c.any.ensures.ran (YieldsList-from_slice a.trace.sink.now cc) (λ x b q k. search (rules, tests))
+    in
+    rw (
+      room_left (is_well (value a.self.now)) a.trace.control.now a.trace.«data».now a.trace.sink.now a.out_control.now a.out_data.now c.if-trace-cycles.false c.if-cycles-gt-MAX_CYCLES.false (sym c.is_well.ensures.value ∙ c.if-not-is_well.false)
+          (rw (c.any_reserved.ensures, any) at c.if-any_reserved-any.false),
+      c.if-out_control-cycles.false,
+    )

@@ -1,6 +1,7 @@
--- `Chain::shortest` meets its contract. Assumes nothing.
-use Rattle.chain.proofs.Filling.{shortest_value}
+-- One of sixteen smallest FIFOs is used. Assumes nothing.
+use Rattle.chain.specs.Promises.{value}
 use Rattle.chain.proofs.Chain.shortest.Goals as goal
 
 pub returns : goal.returns
-returns c = shortest_value _ _ c.new-made.ensures
+unfolding value
+returns c = rw c.smallest.ensures

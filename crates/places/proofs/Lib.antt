@@ -1,2 +1,0 @@
--- What holds while places are read.
-pub mod Reading
