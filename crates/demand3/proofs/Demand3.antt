@@ -106,4 +106,4 @@ demand3_from places accepted start v calls s =
     sound past = sound_all (length places) (opened places) past (sound_opened places legal.room)
 
 pub demand3 : Claim
-demand3 places accepted new made calls s = demand3_from places accepted new.chain (made.gives ∙ rw accepted) calls s
+demand3 places accepted new made calls s = demand3_from places accepted new made.gives calls s

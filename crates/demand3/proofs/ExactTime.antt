@@ -14,6 +14,7 @@ use lib.ListN.{length, take, length-append, length-take}
 use lib.Seq.{length-take-le, take-append_seam, take-append-le, take-append-add}
 use borrow.Author.Tests.{leb-false}
 use lib.Dec.{leb}
+use Rattle.std.specs.Prelude.{Ok}
 use Rattle.signals.specs.declared.Payload.{Payload}
 use Rattle.signals.specs.Refusals.{accepts}
 use Rattle.signals.proofs.Bools.{clash}
@@ -29,8 +30,7 @@ use Rattle.chain.specs.Cycles.{Cycle}
 use Rattle.chain.specs.Calls.{Value, well, is_well, queues}
 use Rattle.chain.specs.Timing.{delivery_time, Timing, timing}
 use Rattle.chain.specs.Promises.{value, timed}
-use Rattle.chain.proofs.Used.{formed, from_start}
-use Rattle.chain.proofs.Walk.{wells_of_line}
+use Rattle.chain.proofs.Used.{formed, wells_of_line}
 use Rattle.chain.proofs.Need.{count, need, by_size, need_bound}
 use Rattle.chain.proofs.Timing.{need_time}
 use Rattle.demand3.specs.Demand3.{Ledger, opened, entered, entered_all, CapacityAtLeast2, readies, NoClear, Begins}
@@ -190,18 +190,18 @@ chain_room : (chain : Chain) (qs : List Queue) → value chain ≡ well qs → C
 chain_room chain qs v =
     let f = formed chain (ap is_well v) in
     fifos_room (take chain.count chain.fifos) qs
-    (sym (from_start chain.fifos chain.count) ∙ wells_of_line _ qs (f.row ∙ ap (λ (w : Value). well (queues w)) v))
+    (wells_of_line _ qs (f.row ∙ ap (λ (w : Value). well (queues w)) v))
 
 pub answer_is_time_lem : AnswerIsTime
-answer_is_time_lem given i r times accepted l v cs d enough n = by_held (leb (count l.line) i) refl
+answer_is_time_lem given i cycles times l v cs d enough n = by_held (leb (count l.line) i) refl
   where
-    answered : timed r ≡ timing (well l.line) i
+    answered : timed (Ok cycles) ≡ timing (well l.line) i
     answered = times ∙ ap (λ (w : Value). timing w i) v
 
-    by_held : (b : Bool) → leb (count l.line) i ≡ b → Delivers l cs n i ↔ (n ≡ r.cycles)
-    by_held true e = absurd (false≢true (sym (ap (λ (t : Timing). accepts t.refusal) (rw e at answered)) ∙ accepted))
+    by_held : (b : Bool) → leb (count l.line) i ≡ b → Delivers l cs n i ↔ (n ≡ cycles)
+    by_held true e = absurd (false≢true (sym (ap (λ (t : Timing). accepts t.refusal) (rw e at answered))))
     by_held false e =
-        let same : r.cycles ≡ delivery_time l.line i = ap (λ (t : Timing). t.cycles) (rw e at answered) in
+        let same : cycles ≡ delivery_time l.line i = ap (λ (t : Timing). t.cycles) (rw e at answered) in
         rw same
         (exact_time l (chain_room given l.line v) i (leb-false (count l.line) i e) cs d (omega (arith, same, enough)) n)
 

@@ -8,8 +8,8 @@ use mathlib.Core.List.{List, [], ◌∷◌, ◌++◌, map}
 use mathlib.Core.Logic.{◌↔◌}
 use mathlib.Core.Path.{◌≡◌, refl}
 use lib.ListN.{length, replicate}
+use Rattle.std.specs.Prelude.{Ok}
 use Rattle.signals.specs.declared.Payload.{Payload}
-use Rattle.signals.specs.declared.Outcome.TheVariants.{Accepted}
 use Rattle.signals.specs.Refusals.{accepts}
 use Rattle.signals.specs.Payloads.{zeros}
 use Rattle.signals.specs.Stream.{Sample, clear_cycle}
@@ -21,7 +21,6 @@ use Rattle.fifo.specs.Promises as fifo
 use Rattle.fifo.proofs.Some.{fifo_of, some_fifo}
 use Rattle.places.specs.Listing.{max_fifos}
 use Rattle.chain.specs.declared.Chain.{Chain}
-use Rattle.chain.specs.declared.NewChain.{NewChain}
 use Rattle.chain.specs.Line.{held_in}
 use Rattle.chain.specs.Cycles.{Cycle, sample_of}
 use Rattle.chain.specs.Calls.{Call, step, run, well, grounds, accepted, answer, back}
@@ -163,13 +162,13 @@ calls =
     ∷ called none clearing_run three
     ∷ []
 
-abbrev pub new : NewChain
-new = record { outcome = Accepted; chain = chain_of none }
+abbrev pub new : Chain
+new = chain_of none
 
-pub made : Made places new
+pub made : Made places (Ok new)
 made = record { refusal = refl; gives = none_value }
 
-pub session : Session new.chain calls
+pub session : Session new calls
 session = (
   promised none nine accepting none_value nine_value (λ e. absurd (true≢false e)),
   (

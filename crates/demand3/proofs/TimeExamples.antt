@@ -6,9 +6,8 @@ use native.Mathlib.Omega.{arith}
 use mathlib.Core.Bool.{true}
 use mathlib.Core.List.{List, [], ◌∷◌, map}
 use mathlib.Core.Path.{◌≡◌, refl}
-use Rattle.signals.specs.declared.Outcome.TheVariants.{Accepted}
+use Rattle.std.specs.Prelude.{Ok}
 use Rattle.fifo.specs.Queue.{Queue, plain, early_stall_place}
-use Rattle.chain.specs.declared.DeliveryTime.{DeliveryTime}
 use Rattle.chain.specs.Line.{held_in}
 use Rattle.chain.specs.Cycles.{Cycle}
 use Rattle.chain.specs.Timing.{delivery_time}
@@ -77,16 +76,13 @@ gap_delivers =
     refl
 
 -- the chain of two FIFOs that a step gave back, 9 being at its mouth: the call answers 1, and so 9 is delivered in the second cycle
-abbrev answered : DeliveryTime
-answered = record { outcome = Accepted; cycles = 1 }
-
-nine_times : Times (chain_of nine) 0 answered
+nine_times : Times (chain_of nine) 0 (Ok 1)
 unfolding delivery_time
 nine_times = rw nine_value refl
 
 nine_delivers : Delivers (held nine) (idle true ∷ offering 5 true ∷ []) 1 0
 nine_delivers =
-    (answer_is_time_lem (chain_of nine) 0 answered nine_times refl (held nine) nine_value (idle true ∷ offering 5 true ∷ [])
+    (answer_is_time_lem (chain_of nine) 0 1 nine_times (held nine) nine_value (idle true ∷ offering 5 true ∷ [])
     ((refl, refl), ((refl, refl), tt))
     (omega arith)
     1).1

@@ -1,7 +1,7 @@
 -- Demand 3 of document 01, with requests T-08 and T-09: between clears a line of FIFOs, of either kind in any mix, loses, invents,
 -- reorders and overdelays nothing, and a clear drops exactly what is held. One claim about a whole list of steps and runs on one chain;
 -- it is proved in `proofs/Demand3.antt`. Assumes nothing.
-use Rattle.std.specs.Prelude.{ℕ, ◌+◌, ◌≤◌, true, false, cond, ◌&&◌, List, [], ◌∷◌, ◌++◌, map, ◌↔◌, ◌≡◌, length, take}
+use Rattle.std.specs.Prelude.{ℕ, ◌+◌, ◌≤◌, true, false, cond, ◌&&◌, List, [], ◌∷◌, ◌++◌, map, ◌↔◌, ◌≡◌, length, take, Ok}
 use Rattle.std.proofs.Math.Option.{Option, none, some}
 use Rattle.signals.specs.declared.Payload.{Payload}
 use Rattle.signals.specs.Refusals.{accepts}
@@ -11,7 +11,6 @@ use Rattle.stream_checker.specs.Rules.{breaks_held, breaks_stable}
 use Rattle.fifo.specs.declared.Place.{Place}
 use Rattle.fifo.specs.Queue.{Queue, when, capacity, empty}
 use Rattle.chain.specs.declared.Chain.{Chain}
-use Rattle.chain.specs.declared.NewChain.{NewChain}
 use Rattle.chain.specs.Line.{held_in}
 use Rattle.chain.specs.Cycles.{Cycle, ready_in, shown_in, after}
 use Rattle.chain.specs.Calls.{Call, step, run, Answer, well, grounds, asked, answer, new_grounds}
@@ -159,5 +158,5 @@ pub record Demand3 (places : List Place) (calls : List Done) : Type 0 where
 -- on that chain.
 abbrev pub Claim : Type 0
 Claim =
-    (places : List Place) → first_applying (new_grounds places) ≡ none → (new : NewChain) → Made places new →
-    (calls : List Done) → Session new.chain calls → Demand3 places calls
+    (places : List Place) → first_applying (new_grounds places) ≡ none → (new : Chain) → Made places (Ok new) →
+    (calls : List Done) → Session new calls → Demand3 places calls

@@ -1,13 +1,11 @@
 -- Request T-12: the exact delivery time. One claim about every line whose FIFOs have capacity at least 2, and what follows from it. They
 -- are proved in `proofs/ExactTime.antt`. Assumes nothing.
-use Rattle.std.specs.Prelude.{ℕ, ◌+◌, ◌-◌, ◌≤◌, ◌<◌, true, false, List, [], ◌∷◌, ◌++◌, ◌↔◌, ◌≡◌, length, take}
+use Rattle.std.specs.Prelude.{ℕ, ◌+◌, ◌-◌, ◌≤◌, ◌<◌, true, false, List, [], ◌∷◌, ◌++◌, ◌↔◌, ◌≡◌, length, take, Ok}
 use Rattle.std.proofs.Math.Option.{none}
-use Rattle.signals.specs.Refusals.{refusal_of, accepts}
 use Rattle.signals.specs.Tables.{first_applying}
 use Rattle.fifo.specs.declared.Place.{Place}
 use Rattle.fifo.specs.Queue.{Queue}
 use Rattle.chain.specs.declared.Chain.{Chain}
-use Rattle.chain.specs.declared.DeliveryTime.{DeliveryTime}
 use Rattle.chain.specs.Line.{held_in}
 use Rattle.chain.specs.Cycles.{Cycle}
 use Rattle.chain.specs.Calls.{well, new_grounds}
@@ -53,8 +51,7 @@ ArrivalsAlterNothing =
 -- What `Chain::delivery_time` answers, where it does not refuse, is that cycle: a chain that has its form has FIFOs of capacity at least 2.
 abbrev pub AnswerIsTime : Type 0
 AnswerIsTime =
-    (given : Chain) (i : ℕ) (r : DeliveryTime) → Times given i r → accepts (refusal_of r.outcome) ≡ true →
-    (l : Ledger) → value given ≡ well l.line → DeliveredAt l i r.cycles
+    (given : Chain) (i cycles : ℕ) → Times given i (Ok cycles) → (l : Ledger) → value given ≡ well l.line → DeliveredAt l i cycles
 
 -- Beside demand 3's bound: at most the payloads ahead of it and the FIFOs but one. A payload that was accepted with n held has at most n
 -- ahead of it, and its cycle, counted from 1, is at most n + k.
