@@ -1,8 +1,7 @@
 -- Strobes side by side are digits to the base 16: lane i's stay below 16 to the power i + 1, and are found there again.
 -- By induction over the number of lanes, the last apart. Assumes nothing.
-use Prim.Native.Nat.{ℕ, zero, suc, ◌+◌, ◌-◌, ◌*◌, ◌/◌, ◌%◌, ◌^◌, ◌<◌, ◌≤◌}
-use native.Mathlib.Nat.{zero-lt-suc, one-le-pow, pow-suc, mul_assoc, mul_comm, mod-eq_of_lt, mul-add-div_right, mul-add-mod_self_right, lt_of_lt_of_le, pow-le-pow_right, mod-one}
-use native.Mathlib.Numerals.{add-one}
+use Prim.Native.Nat.{ℕ, zero, suc, ◌+◌, ◌-◌, ◌*◌, ◌/◌, ◌%◌, ◌^◌, ◌<◌}
+use native.Mathlib.Nat.{zero-lt-suc, one-le-pow, pow-suc, mul_assoc, mul_comm, mod-eq_of_lt, mul-add-div_right, mul-add-mod_self_right, mod-one}
 use native.Mathlib.Omega.{arith}
 use mathlib.Core.Bool.{true}
 use mathlib.Core.List.{List}
@@ -18,7 +17,6 @@ use Rattle.signals.proofs.Below.{each_below}
 use Rattle.signals.proofs.Bools.{either}
 use Rattle.lanes.specs.declared.Offer.{Offer}
 use Rattle.lanes.specs.declared.Wide.{Wide}
-use Rattle.lanes.specs.Lanes.{max_lanes}
 use Rattle.lanes.specs.Merge.{payload_at, legal_strobes}
 use Rattle.lanes.specs.Wide.{lane, strobes_below}
 
@@ -39,11 +37,6 @@ above s d i below = rw shifted (mul-add-mod_self_right (s * 16 ^ d) 16 (below / 
     shifted = ap (λ (p : ℕ). (p + below) / 16 ^ i) power ∙ mul-add-div_right (pow_pos i) (s * 16 ^ d * 16) below
 
 module _ (payload : ℕ → Payload) where
-  -- the next lane's strobes join those of the lanes before
-  pub strobes_join : (i weight below : ℕ) → weight ≡ 16 ^ i → below ≡ strobes_below payload i →
-      (payload i).strb * weight + below ≡ strobes_below payload (i + 1)
-  strobes_join i weight below e f = rw (e, f, add-one i)
-
   pub strobes_fit : (n : ℕ) → ((i : ℕ) → i < n → (payload i).strb < 16) → strobes_below payload n < 16 ^ n
   strobes_fit zero legal = pow_pos 0
   strobes_fit (suc n) legal =
@@ -67,17 +60,10 @@ module _ (payload : ℕ → Payload) where
       ∙ mod-eq_of_lt (legal n (omega arith))))
       (either (ltb i n))
 
--- the strobes of inputs that are legal stay below 16, and those of the lanes side by side below 16 to the power 4
+-- the strobes of inputs that are legal stay below 16
 pub legal_below : (inputs : List Offer) (n : ℕ) → legal_strobes n inputs ≡ true → (i : ℕ) → i < n → (payload_at inputs i).strb < 16
 legal_below inputs n e i h =
     let legal = leb-true (payload_at inputs i).strb max_strb (each_below (λ j. legal_strb (payload_at inputs j)) n e i h) in omega arith
-
-pub strobes_small : (inputs : List Offer) (n i : ℕ) → n ≤ max_lanes → legal_strobes n inputs ≡ true → i ≤ n →
-    strobes_below (payload_at inputs) i < 65536
-strobes_small inputs n i few e h =
-    lt_of_lt_of_le
-    (strobes_fit (payload_at inputs) i (λ j g. legal_below inputs n e j (omega arith)))
-    (pow-le-pow_right {n = 16} (zero-lt-suc 15) {i = i} {j = max_lanes} (omega arith))
 
 -- strobes that agree on the lanes
 pub strobes_alike : (f g : ℕ → Payload) (n : ℕ) → ((i : ℕ) → i < n → f i ≡ g i) → strobes_below f n ≡ strobes_below g n

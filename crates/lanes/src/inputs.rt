@@ -1,99 +1,66 @@
-// What a merge reads of its first n inputs, and the ready that it gives them.
-ghost use Rattle.std.specs.Prelude.{◌≡◌, ◌≤◌, true, false, cond};
-ghost use Rattle.lanes.specs.Lanes.{max_lanes, per_lane};
-ghost use Rattle.lanes.specs.Wide.{wide_zeros, strobes_below, together};
+// What a merge reads of its inputs, and the ready that it gives them.
+ghost use Rattle.std.specs.Prelude.{◌≡◌, true, false};
+ghost use Rattle.lanes.specs.Lanes.{count_of, per_lane};
+ghost use Rattle.lanes.specs.Wide.{strobes_below, together};
 ghost use Rattle.lanes.specs.Merge.{payload_at, legal_strobes, all_valid};
 
 use super::strobes::weight;
-use super::{MAX_LANES, NOTHING, Offer, Wide};
+use super::{Lanes, MAX_LANES, Offer, Wide};
 use signals::MAX_STRB;
+use std::array::from_fn;
 
 // Whether each strobe is legal, valid or not.
-pub(crate) fn has_legal_strobes(n: usize, inputs: [Offer; MAX_LANES]) -> bool
-    requires { n ≤ max_lanes }
-    ensures { result ≡ legal_strobes n inputs }
+pub(crate) fn has_legal_strobes(lanes: Lanes, inputs: &[Offer; MAX_LANES]) -> bool
+    ensures { result ≡ legal_strobes (count_of lanes) inputs.now }
 {
-    let mut all = true;
-    let mut i = 0;
-    while i < n {
-        let input = inputs[i];
-        let payload = input.payload;
-        all = all & (payload.strb <= MAX_STRB);
-        i += 1;
-    }
-    all
+    inputs[..lanes.count()]
+        .iter()
+        .all(|input| input.payload.strb <= MAX_STRB)
 }
 
-pub(crate) fn all_valid(n: usize, inputs: [Offer; MAX_LANES]) -> bool
-    requires { n ≤ max_lanes }
-    ensures { result ≡ all_valid n inputs }
+pub(crate) fn all_valid(lanes: Lanes, inputs: &[Offer; MAX_LANES]) -> bool
+    ensures { result ≡ all_valid (count_of lanes) inputs.now }
 {
-    let mut valid = true;
-    let mut i = 0;
-    while i < n {
-        let input = inputs[i];
-        valid = valid & input.valid;
-        i += 1;
-    }
-    valid
+    inputs[..lanes.count()].iter().all(|input| input.valid)
 }
 
 // Their data, side by side.
-fn words(n: usize, inputs: [Offer; MAX_LANES]) -> [u32; MAX_LANES]
-    requires { n ≤ max_lanes }
-    ensures { result ≡ per_lane n 0 (λ i. (payload_at inputs i).«data») }
+fn words(lanes: Lanes, inputs: &[Offer; MAX_LANES]) -> [u32; MAX_LANES]
+    ensures { result ≡ per_lane (count_of lanes) 0 (λ i. (payload_at inputs.now i).«data») }
 {
-    let mut words = [0; MAX_LANES];
-    let mut i = 0;
-    while i < n {
-        let input = inputs[i];
-        let payload = input.payload;
-        words[i] = payload.data;
-        i += 1;
-    }
-    words
+    from_fn(|i| if i < lanes.count() {
+        inputs[i].payload.data
+    } else {
+        0
+    })
 }
 
 // Their strobes, side by side.
-fn strobes(n: usize, inputs: [Offer; MAX_LANES]) -> u16
-    requires { (n ≤ max_lanes) × (legal_strobes n inputs ≡ true) }
-    ensures { result ≡ strobes_below (payload_at inputs) n }
+fn strobes(lanes: Lanes, inputs: &[Offer; MAX_LANES]) -> u16
+    requires { legal_strobes (count_of lanes) inputs.now ≡ true }
+    ensures { result ≡ strobes_below (payload_at inputs.now) (count_of lanes) }
 {
-    let mut strb: u32 = 0;
-    let mut i = 0;
-    while i < n {
-        let input = inputs[i];
-        let payload = input.payload;
-        strb = payload.strb as u32 * weight(i) + strb;
-        i += 1;
+    let mut strobes = 0;
+    for (i, input) in inputs[..lanes.count()].iter().enumerate() {
+        strobes += input.payload.strb as u32 * weight(i);
     }
-    strb as u16
+    strobes as u16
 }
 
-// The wide payload that is shown.
-pub(crate) fn shown(n: usize, inputs: [Offer; MAX_LANES], valid: bool) -> Wide
-    requires { (n ≤ max_lanes) × (legal_strobes n inputs ≡ true) }
-    ensures { result ≡ cond valid (together n (payload_at inputs)) wide_zeros }
+// The wide payload that they make.
+pub(crate) fn together(lanes: Lanes, inputs: &[Offer; MAX_LANES]) -> Wide
+    requires { legal_strobes (count_of lanes) inputs.now ≡ true }
+    ensures { result ≡ together (count_of lanes) (payload_at inputs.now) }
 {
-    if valid {
-        return Wide {
-            data: words(n, inputs),
-            strb: strobes(n, inputs),
-        };
+    Wide {
+        data: words(lanes, inputs),
+        strb: strobes(lanes, inputs),
     }
-    NOTHING
 }
 
 // The same ready to each of them.
-pub(crate) fn given(n: usize, ready: bool) -> [bool; MAX_LANES]
-    requires { n ≤ max_lanes }
-    ensures { result ≡ per_lane n false (λ i. ready) }
+pub(crate) fn given(lanes: Lanes, ready: bool) -> [bool; MAX_LANES]
+    ensures { result ≡ per_lane (count_of lanes) false (λ i. ready) }
 {
-    let mut readies = [false; MAX_LANES];
-    let mut i = 0;
-    while i < n {
-        readies[i] = ready;
-        i += 1;
-    }
-    readies
+    from_fn(|i| i < lanes.count() && ready)
 }

@@ -2,17 +2,13 @@
 ghost use Rattle.std.specs.Prelude.{◌≡◌, ◌≤◌, ◌^◌};
 ghost use Rattle.lanes.specs.Lanes.{max_lanes};
 
-use super::MAX_LANES;
-
 // How many values the four strobes of a lane have.
 pub(crate) const STROBES: u32 = 16;
 
-// What the lowest strobe of each lane counts for in strb, and last what one past four lanes would.
-const WEIGHTS: [u32; MAX_LANES + 1] = [1, 16, 256, 4096, 65536];
-
+// What the lowest strobe of lane i counts for in strb, and last what one past four lanes would.
 pub(crate) fn weight(i: usize) -> u32
     requires { i ≤ max_lanes }
     ensures { result ≡ 16 ^ i }
 {
-    WEIGHTS[i]
+    STROBES.pow(i as u32)
 }

@@ -1,33 +1,36 @@
--- `split` meets its contract: its tests are the grounds in their order. Assumes nothing.
-use mathlib.Core.Path.{sym, ◌∙◌}
-use Rattle.lanes.proofs.Answers.{lanes_few, split_accepts, split_refuses_strobes, split_refuses_lanes}
+-- Its tests are the grounds in their order, and its parts those of the cycle in the definition. Assumes nothing.
+use Rattle.std.proofs.Common.{◌≡◌, ◌&&◌, sym, ◌∙◌}
+use Rattle.std.proofs.lemmas.Result.{err_from_is_err_and}
+use Rattle.lanes.proofs.Answers.{split_parts, split_accepts, split_refuses_strobes, split_refuses_lanes}
 use Rattle.lanes.proofs.split.Goals as goal
+use Rattle.lanes.proofs.split.Goals.{then-valid, else-valid}
 
-pub has_strobe_past-requires : goal.has_strobe_past-requires
-has_strobe_past-requires c = lanes_few _ (sym c.is_legal.ensures ∙ c.if-is_legal.true)
+pub returns-in_err-lanes : goal.returns-in_err-lanes
+returns-in_err-lanes c =
+    let a = c.args in
+    let p = err_from_is_err_and c.from_residual.result c.from_residual.ensures.1 in
+    let refused = c.in_err-lanes.ensures in
+    rw (p.1, p.2, refused.1) (sym (split_refuses_lanes a.lanes a.valid a.wide a.readies refused.0))
 
 pub returns-then-has_strobe_past : goal.returns-then-has_strobe_past
 returns-then-has_strobe_past c =
     let a = c.args in
-    c.refused.ensures
-    ∙ sym
-    (split_refuses_strobes a.lanes a.valid a.wide a.readies (sym c.is_legal.ensures ∙ c.if-is_legal.true)
-    (sym c.has_strobe_past.ensures ∙ c.if-has_strobe_past.true))
-
-pub accepted-requires : goal.accepted-requires
-accepted-requires c = lanes_few _ (sym c.is_legal.ensures ∙ c.if-is_legal.true)
-
-pub returns-then-is_legal : goal.returns-then-is_legal
-returns-then-is_legal c =
-    let a = c.args in
-    c.accepted.ensures
-    ∙ sym
-    (split_accepts a.lanes a.valid a.wide a.readies (sym c.is_legal.ensures ∙ c.if-is_legal.true)
-    (sym c.has_strobe_past.ensures ∙ c.if-has_strobe_past.false))
+    let known = c.in_ok-lanes.ensures in
+    let strobes = rw known.1 at c.if-has_strobe_past.ensures in
+    sym (split_refuses_strobes a.lanes a.valid a.wide a.readies known.0 (sym strobes))
 
 pub returns : goal.returns
 returns c =
     let a = c.args in
-    c.refused-2.ensures
-    ∙ sym
-    (split_refuses_lanes a.lanes a.valid a.wide a.readies (sym c.is_legal.ensures ∙ c.if-is_legal.false))
+    let known = c.in_ok-lanes.ensures in
+    let strobes = rw known.1 at c.if-has_strobe_past.ensures in
+    let ready = rw known.1 at c.all_ready-ready.ensures in
+    let offered : c.if-valid.offers ≡ a.valid && c.all_ready-ready.result =
+    elim c.if-valid.branch [
+      | then-valid w ↦ rw w.if-valid.true w.offers-is
+      | else-valid w ↦ rw w.if-valid.false (w.offers-is ∙ w.if-valid.false)
+    ]
+    in
+    let branches = rw (known.1, offered) at c.offers.ensures in
+    split_parts a.lanes a.valid a.wide a.readies _ _ ready branches
+    ∙ sym (split_accepts a.lanes a.valid a.wide a.readies known.0 (sym strobes))

@@ -1,6 +1,6 @@
--- `lane` meets its contract: the weight of lane i is the power in the definition, and so no 0 divides. Assumes nothing.
+-- The weight of a lane is a power, and so no 0 divides. Assumes nothing.
 use Rattle.lanes.proofs.Digits.{pow_pos}
 use Rattle.lanes.proofs.branches.lane.Goals as goal
 
-pub nonzero_div-strobes : goal.nonzero_div-strobes
-nonzero_div-strobes c = rw c.weight.ensures (pow_pos c.args.i)
+pub nonzero_div-result : goal.nonzero_div-result
+nonzero_div-result c = rw c.weight.ensures (pow_pos _)

@@ -1,22 +1,9 @@
--- `weight` meets its contract: one test over its whole table computes. Assumes nothing.
-use Prim.Native.Nat.{ℕ, ◌+◌, ◌^◌}
-use native.Mathlib.Omega.{arith}
-use mathlib.Core.Bool.{Bool}
-use mathlib.Core.List.{List, [], ◌∷◌}
-use mathlib.Core.Path.{refl}
-use borrow.Author.Tests.{eqb-true}
-use lib.Dec.{eqb}
-use lib.ListN.{get_or}
-use Rattle.signals.proofs.Below.{each_below}
+-- The weight of the fourth lane and one past it is the largest. Assumes nothing.
+use Rattle.std.proofs.Common.{◌^◌, ◌≤◌, arith}
+use native.Mathlib.Nat.{zero-lt-suc, pow-le-pow_right}
 use Rattle.lanes.specs.Lanes.{max_lanes}
 use Rattle.lanes.proofs.strobes.weight.Goals as goal
 
--- the table in the code, against the powers
-abbrev weights : List ℕ
-weights = 1 ∷ 16 ∷ 256 ∷ 4096 ∷ 65536 ∷ []
-
-abbrev isPower : ℕ → Bool
-isPower i = eqb (get_or weights i 0) (16 ^ i)
-
-pub returns : goal.returns
-returns c = let i = c.args.i in eqb-true (get_or weights i 0) (16 ^ i) (each_below isPower (max_lanes + 1) refl i (omega arith))
+pub pow-requires : goal.pow-requires
+pow-requires c =
+    let most : 16 ^ c.args.i ≤ 16 ^ max_lanes = pow-le-pow_right {n = 16} (zero-lt-suc 15) c.requires in omega arith
