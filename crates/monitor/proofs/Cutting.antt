@@ -12,13 +12,13 @@ use lib.Dec.{ltb}
 use lib.ListN.{length, get_or, length-append, get_or-append}
 use lib.Seq.{get_or-append-add}
 use borrow.Author.Tests.{eqb-true, ltb-false, le-ltb, not-false}
+use Rattle.std.specs.Prelude.{Ok, Err}
 use Rattle.signals.specs.Judging.{Finding, clean, broken, count_below, finding_below, cycles_counted}
 use Rattle.signals.specs.Numbers.{in_three}
 use Rattle.signals.specs.Refusals.{max_cycles}
 use Rattle.signals.specs.Stream.{Sample, sample, sample_at}
 use Rattle.signals.specs.Tables.{first_applying}
 use Rattle.signals.specs.Written.{RuleName}
-use Rattle.signals.specs.declared.Outcome.TheVariants.{Accepted, Refused}
 use Rattle.signals.specs.declared.Refusal.{Refusal}
 use Rattle.signals.proofs.Tables.{keeps_none, none_keeps}
 use Rattle.stream_checker.specs.Step.{start, rules_from}
@@ -71,11 +71,11 @@ module _ (xs ys us vs : List ℕ) (same : length xs ≡ length us) where
 -- what becomes of a burst: its cycles are taken one after another, or it is refused and the record stays
 record IsTaken (m : Monitor) (b : Burst) : Type 0 where
   same : length b.controls ≡ length b.words
-  fed : fed_by m b.controls b.words ≡ record { monitor = after_cycles m (sample_at b.controls b.words) (length b.controls); outcome = Accepted }
+  fed : fed_by m b.controls b.words ≡ Ok (after_cycles m (sample_at b.controls b.words) (length b.controls))
 
 record IsRefused (m : Monitor) (b : Burst) : Type 0 where
   why : Refusal
-  fed : fed_by m b.controls b.words ≡ record { monitor = m; outcome = Refused why }
+  fed : fed_by m b.controls b.words ≡ Err why
 
 module _ (m : Monitor) (b : Burst) where
   by_ground : (ground : Option Refusal) → first_applying (grounds m b.controls b.words) ≡ ground → IsTaken m b ⊎ IsRefused m b
@@ -84,11 +84,11 @@ module _ (m : Monitor) (b : Burst) where
       let next = after_cycles m (sample_at b.controls b.words) (length b.controls) in
       inl (record {
         same = eqb-true _ _ (not-false _ (none_keeps (grounds m b.controls b.words) e).0);
-        fed = ap (λ (o : Option Refusal). unless_refused o m next) e;
+        fed = ap (λ (o : Option Refusal). unless_refused o next) e;
       })
   by_ground (some why) e =
       let next = after_cycles m (sample_at b.controls b.words) (length b.controls) in
-      inr (record { why = why; fed = ap (λ (o : Option Refusal). unless_refused o m next) e })
+      inr (record { why = why; fed = ap (λ (o : Option Refusal). unless_refused o next) e })
 
   taken_or_refused : IsTaken m b ⊎ IsRefused m b
   taken_or_refused = by_ground (first_applying (grounds m b.controls b.words)) refl
@@ -200,4 +200,8 @@ as_one_burst_lem seq_on controls words free =
     let room : ltb max_seen (0 + length controls) ≡ false = le-ltb max_seen (0 + length controls) (omega (arith, short)) in
     let none_given : first_applying (grounds (fresh seq_on) controls words) ≡ none =
     keeps_none (grounds (fresh seq_on) controls words) (keeps.0, (room, (rw (fresh_legal seq_on), (keeps.1.1.0, tt)))) in
-    record { accepted = rw none_given; says = rw (none_given, free) (one_burst_says seq_on controls words (length controls)) }
+    record {
+      next = last seq_on controls words (length controls);
+      accepted = rw none_given;
+      says = rw free (one_burst_says seq_on controls words (length controls));
+    }

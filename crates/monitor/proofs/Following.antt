@@ -3,12 +3,14 @@
 use Prim.Native.Nat.{ℕ, zero, suc, ◌+◌, ◌*◌}
 use native.Mathlib.Nat.{add-zero}
 use native.Mathlib.Omega.{arith}
-use mathlib.Core.Bool.{Bool, true, false, cond, not, ◌&&◌, ◌||◌}
+use mathlib.Core.Bool.{Bool, true, false, cond, not, ◌&&◌}
 use mathlib.Core.List.{List}
 use mathlib.Core.Option.{Option, none, some}
 use mathlib.Core.Path.{◌≡◌, refl, sym, ◌∙◌, ap}
 use lib.Dec.{eqb}
 use lib.ListN.{get_or}
+use Rattle.std.specs.Prelude as std
+use Rattle.std.specs.Prelude.{Some, None, is_some, unwrap_or}
 use Rattle.signals.specs.Judging.{Finding, clean, broken, found, count_below, finding_below}
 use Rattle.signals.specs.Payloads.{zeros, same_payload}
 use Rattle.signals.specs.Stream.{Sample, sample, sample_at, clear_cycle, handshake}
@@ -16,13 +18,14 @@ use Rattle.signals.specs.Tables.{Row, first_applying}
 use Rattle.signals.specs.Written.{RuleName}
 use Rattle.signals.specs.declared.Payload.{Payload}
 use Rattle.stream_checker.specs.Rules.{stalled, breaks_held, breaks_stable, counter, after_counter, carries_counter, in_order, unless_clear}
+use Rattle.stream_checker.specs.Step as watched
 use Rattle.stream_checker.specs.Step.{before, rules_after, next, watch_after, rules_from}
 use Rattle.stream_checker.specs.Verdicts.{handshake_at, clear_at}
 use Rattle.stream_checker.specs.declared.watch.Watch.{Watch}
 use Rattle.monitor.specs.declared.Monitor.{Monitor}
-use Rattle.monitor.specs.Cycle.{last_seen, not_due, rules_next, passed, judged_next, one_more, after_cycles}
-use Rattle.monitor.specs.Step.{watch_of, clean_with, kept, still_broken, broken_in}
-use Rattle.monitor.proofs.Legal.{Clean, Broken}
+use Rattle.monitor.specs.Cycle.{last_seen, not_due, rules_next, passed, seen_only, judged_next, one_more, after_cycles}
+use Rattle.monitor.specs.Step.{watch_of, clean_with, kept, broken_in, with_cycles}
+use Rattle.monitor.proofs.Legal.{Clean}
 use Rattle.monitor.proofs.Stall.{stall_sample}
 
 -- a record's flag is the stall itself, and its payload is looked at only there
@@ -36,22 +39,24 @@ stable_alike true valid p q = refl
 stable_alike false valid p q = refl
 
 -- and the counter due only where one is kept
-due_alike : (counted : Bool) (n due : ℕ) → counted && not (eqb n (cond counted due 0)) ≡ counted && not (eqb n due)
-due_alike true n due = refl
-due_alike false n due = refl
+due_alike : (due : std.Option ℕ) (n : ℕ) → is_some due && not (eqb n (unwrap_or due 0)) ≡ watched.not_due due n
+due_alike None n = refl
+due_alike (Some due) n = refl
 
 -- a counter is kept after a cycle, and due, in a record as in a watch
-counted_alike : (clear carries counted : Bool) → cond clear false (cond carries true counted) ≡ not clear && (carries || counted)
-counted_alike true carries counted = refl
-counted_alike false true counted = refl
-counted_alike false false counted = refl
+counted_alike :
+    (clear carries : Bool) (next : ℕ) (due : std.Option ℕ) →
+    cond clear false (cond carries true (is_some due)) ≡ is_some (cond clear None (cond carries (Some next) due))
+counted_alike true carries next due = refl
+counted_alike false true next due = refl
+counted_alike false false next due = refl
 
 due_next_alike :
-    (clear carries counted : Bool) (next due : ℕ) →
-    cond clear 0 (cond carries next (cond counted due 0)) ≡ cond (not clear && (carries || counted)) (cond carries next due) 0
-due_next_alike true carries counted next due = refl
-due_next_alike false true counted next due = refl
-due_next_alike false false counted next due = refl
+    (clear carries : Bool) (next : ℕ) (due : std.Option ℕ) →
+    cond clear 0 (cond carries next (unwrap_or due 0)) ≡ unwrap_or (cond clear None (cond carries (Some next) due)) 0
+due_next_alike true carries next due = refl
+due_next_alike false true next due = refl
+due_next_alike false false next due = refl
 
 -- one step of a watch, as its record takes it
 module _ (seq_on : Bool) (cycles handshakes clears : ℕ) (w : Watch) where
@@ -64,7 +69,7 @@ module _ (seq_on : Bool) (cycles handshakes clears : ℕ) (w : Watch) where
       (ap (λ (b : Bool). in_order seq_on b (breaks_stable (last_seen m) now) (carries_counter now && not_due m (counter now))) (held_alike s now.valid)
       ∙ ap (λ (b : Bool). in_order seq_on (breaks_held (before w) now) b (carries_counter now && not_due m (counter now))) stable
       ∙ ap (λ (b : Bool). in_order seq_on (breaks_held (before w) now) (breaks_stable (before w) now) (carries_counter now && b))
-      (due_alike w.counted (counter now) w.due))
+      (due_alike w.due (counter now)))
 
   passed_alike :
       (control word : ℕ) →
@@ -77,8 +82,8 @@ module _ (seq_on : Bool) (cycles handshakes clears : ℕ) (w : Watch) where
       λ i. clean_with seq_on (cycles + 1) (handshakes + cond (handshake now) 1 0) (clears + cond (clear_cycle now) 1 0)
       (stalled now)
       (cond (stalled now) now.payload zeros)
-      (counted_alike (clear_cycle now) carries w.counted i)
-      (due_next_alike (clear_cycle now) carries w.counted (after_counter (counter now)) w.due i)
+      (counted_alike (clear_cycle now) carries (after_counter (counter now)) w.due i)
+      (due_next_alike (clear_cycle now) carries (after_counter (counter now)) w.due i)
 
 -- the last cycle, taken from a record and put back
 module _ (p : Payload) where
@@ -94,7 +99,11 @@ module _ (p : Payload) where
   payload_back false z = sym (z refl)
 
 -- and the counter that is due
-due_back : (counted : Bool) (due : ℕ) → (counted ≡ false → due ≡ 0) → cond counted due 0 ≡ due
+counted_back : (counted : Bool) (due : ℕ) → is_some (cond counted (Some due) None) ≡ counted
+counted_back true due = refl
+counted_back false due = refl
+
+due_back : (counted : Bool) (due : ℕ) → (counted ≡ false → due ≡ 0) → unwrap_or (cond counted (Some due) None) 0 ≡ due
 due_back true due z = refl
 due_back false due z = sym (z refl)
 
@@ -111,7 +120,7 @@ kept_back m c =
       clears = m.clears;
       stalled = stall_back m.payload m.stalled i;
       payload = payload_back m.payload m.stalled c.unstalled i;
-      counted = m.counted;
+      counted = counted_back m.counted m.due i;
       due = due_back m.counted m.due c.uncounted i;
     }
 
@@ -170,19 +179,10 @@ module _ (m : Monitor) (controls words : List ℕ) where
   stands c (suc n) = stands_next n (finding_below rules n) (first_applying (rules n)) (after_cycles m trace n) refl (stands c n)
 
   -- a record that is broken stays so, and only the cycles grow
-  pub stays : Broken m → (n : ℕ) → after_cycles m trace n ≡ still_broken m (m.cycles + n)
-  stays b zero =
-      λ i. record {
-        seq = m.seq;
-        cycles = sym (add-zero m.cycles) i;
-        verdict = b.verdict i;
-        rule = m.rule;
-        cycle = m.cycle;
-        handshakes = m.handshakes;
-        clears = m.clears;
-        stalled = b.unstalled i;
-        payload = b.payload i;
-        counted = b.uncounted i;
-        due = b.due i;
-      }
-  stays b (suc n) = ap (λ (x : Monitor). one_more x (trace n)) (stays b n) ∙ ap (still_broken m) (seen_more n)
+  pub stays : m.verdict ≡ 2 → (n : ℕ) → after_cycles m trace n ≡ with_cycles m (m.cycles + n)
+  stays e zero = ap (with_cycles m) (sym (add-zero m.cycles))
+  stays e (suc n) =
+      let r = with_cycles m (m.cycles + n) in
+      ap (λ (x : Monitor). one_more x (trace n)) (stays e n)
+      ∙ ap (λ (v : ℕ). cond (eqb v 1) (judged_next r (trace n) (first_applying (rules_next r (trace n)))) (seen_only r)) e
+      ∙ ap (with_cycles m) (seen_more n)

@@ -19,7 +19,7 @@ use Rattle.signals.specs.declared.Refusal.{Refusal}
 use Rattle.signals.proofs.Bools.{both, clash}
 use Rattle.stream_checker.specs.Rules.{stalled, breaks_held, breaks_stable, counters, counter, after_counter, carries_counter, in_order, unless_clear}
 use Rattle.monitor.specs.declared.Monitor.{Monitor}
-use Rattle.monitor.specs.Bursts.{grounds, unless_refused, fed_by}
+use Rattle.monitor.specs.Bursts.{grounds, unless_refused, fed_by, left_by}
 use Rattle.monitor.specs.Cycle.{last_seen, not_due, rules_next, passed, broken_by, seen_only, judged_next, one_more, after_cycles}
 use Rattle.monitor.specs.Record.{fresh, legal}
 use Rattle.monitor.specs.Theorems.{Burst, after, EachBelow, Recorded, Reached}
@@ -202,12 +202,12 @@ cycles_legal controls words b (suc n) m e =
 -- the record before and the next are legal, so the one of them that is kept is
 unless_legal :
     (ground : Option Refusal) (before next : Monitor) →
-    legal before ≡ true → legal next ≡ true → legal (unless_refused ground before next).monitor ≡ true
+    legal before ≡ true → legal next ≡ true → legal (left_by before (unless_refused ground next)) ≡ true
 unless_legal none before next p q = q
 unless_legal (some why) before next p q = p
 
 -- so does a burst, refused or not
-fed_legal : (m : Monitor) (controls words : List ℕ) → EachBelow 256 controls → legal m ≡ true → legal (fed_by m controls words).monitor ≡ true
+fed_legal : (m : Monitor) (controls words : List ℕ) → EachBelow 256 controls → legal m ≡ true → legal (left_by m (fed_by m controls words)) ≡ true
 unfolding fed_by
 fed_legal m controls words b e = unless_legal (first_applying (grounds m controls words)) m _ e (cycles_legal controls words b (length controls) m e)
 

@@ -8,15 +8,14 @@ use mathlib.Core.Logic.{⊎_elim}
 use mathlib.Core.Option.{Option}
 use mathlib.Core.Path.{◌≡◌, refl, ◌∙◌, ap, subst}
 use borrow.Author.Tests.{le-ltb}
+use Rattle.std.specs.Prelude.{Ok}
 use Rattle.signals.specs.Refusals.{accepts, refusal_of}
 use Rattle.signals.specs.Stream.{sample, reserved_bit}
-use Rattle.signals.specs.declared.Outcome.TheVariants.{Accepted}
 use Rattle.signals.specs.declared.Refusal.{Refusal}
 use Rattle.signals.proofs.Judging.{before_or_last}
 use Rattle.signals.proofs.Tables.{keeps_none}
-use Rattle.monitor.specs.declared.Fed.{Fed}
 use Rattle.monitor.specs.declared.Monitor.{Monitor}
-use Rattle.monitor.specs.Bursts.{max_seen, grounds, unless_refused, fed_by}
+use Rattle.monitor.specs.Bursts.{max_seen, grounds, unless_refused, fed_by, left_by}
 use Rattle.monitor.specs.Cycle.{one_more}
 use Rattle.monitor.specs.Record.{fresh, legal}
 use Rattle.monitor.specs.Theorems.{Burst, after, taken, Recorded, Reached}
@@ -25,14 +24,15 @@ use Rattle.monitor.proofs.Keeps.{reached_legal}
 -- bursts after bursts: the record after both, and which of them are taken
 after_append : (xs ys : List Burst) (m : Monitor) → after m (xs ++ ys) ≡ after (after m xs) ys
 after_append [] ys m = refl
-after_append (x ∷ xs) ys m = after_append xs ys (fed_by m x.controls x.words).monitor
+after_append (x ∷ xs) ys m = after_append xs ys (left_by m (fed_by m x.controls x.words))
 
 taken_append : (xs ys : List Burst) (m : Monitor) → taken m (xs ++ ys) ≡ taken m xs ++ taken (after m xs) ys
 taken_append [] ys m = refl
 taken_append (x ∷ xs) ys m =
     let fed = fed_by m x.controls x.words in
-    let rest = taken_append xs ys fed.monitor in
-    rw rest (one (accepts (refusal_of fed.outcome)) (taken fed.monitor xs) (taken (after fed.monitor xs) ys))
+    let next = left_by m fed in
+    let rest = taken_append xs ys next in
+    rw rest (one (accepts (refusal_of fed)) (taken next xs) (taken (after next xs) ys))
   where
     one : (b : Bool) (us vs : List Burst) → cond b (x ∷ (us ++ vs)) (us ++ vs) ≡ cond b (x ∷ us) us ++ vs
     one true us vs = refl
@@ -50,10 +50,10 @@ module _ (m : Monitor) (control word : ℕ) where
   -- no ground against it: the record is legal, has room for a cycle, and the byte's reserved bit is 0
   cycle_fed :
       legal m ≡ true → m.cycles < max_seen → reserved_bit control ≡ false →
-      fed_by m (control ∷ []) (word ∷ []) ≡ record { monitor = one_more m (sample control word); outcome = Accepted }
+      fed_by m (control ∷ []) (word ∷ []) ≡ Ok (one_more m (sample control word))
   unfolding fed_by
   cycle_fed e room bits =
-      ap (λ (ground : Option Refusal). unless_refused ground m (one_more m (sample control word)))
+      ap (λ (ground : Option Refusal). unless_refused ground (one_more m (sample control word)))
       (keeps_none (grounds m (control ∷ []) (word ∷ [])) (refl, (le-ltb max_seen (m.cycles + 1) (omega arith), (rw e, (rw bits, tt)))))
 
   -- what one cycle more makes of a record that bursts lead to, bursts lead to
@@ -68,7 +68,7 @@ module _ (m : Monitor) (control word : ℕ) where
         bursts = r.bursts ++ one;
         recorded = recorded_append r.bursts one r.recorded ((below, tt), (fits, tt), tt);
         none_refused = taken_append r.bursts one (fresh r.seq_on) ∙ rw (r.none_refused, r.leads, fed);
-        leads = after_append r.bursts one (fresh r.seq_on) ∙ rw r.leads (ap (λ (f : Fed). f.monitor) fed) ∙ is-next;
+        leads = after_append r.bursts one (fresh r.seq_on) ∙ rw r.leads (ap (left_by m) fed) ∙ is-next;
       }
 
 pub fresh_reached : (s : Bool) → Reached (fresh s)

@@ -1,13 +1,11 @@
 -- Requests T-05 and T-09: a burst, the grounds for refusing it, and the record after it. Assumes nothing.
-use Rattle.std.specs.Prelude.{ℕ, ◌+◌, not, List, [], ◌∷◌, eqb, ltb, length}
+use Rattle.std.specs.Prelude.{ℕ, ◌+◌, not, List, [], ◌∷◌, eqb, ltb, length, Result, Ok, Err}
 use Rattle.std.proofs.Math.Option.{Option, none, some}
 use Rattle.signals.specs.Refusals.{any_of}
 use Rattle.signals.specs.Stream.{sample_at, reserved_bit}
 use Rattle.signals.specs.Tables.{Row, ◌⇐◌, first_applying}
-use Rattle.signals.specs.declared.Outcome.TheVariants.{Accepted, Refused}
 use Rattle.signals.specs.declared.Refusal.{Refusal}
 use Rattle.signals.specs.declared.Refusal.TheVariants.{LengthsDiffer, TooLong, BadState, IllegalBits}
-use Rattle.monitor.specs.declared.Fed.{Fed}
 use Rattle.monitor.specs.declared.Monitor.{Monitor}
 use Rattle.monitor.specs.Cycle.{after_cycles}
 use Rattle.monitor.specs.Record.{legal}
@@ -25,12 +23,27 @@ grounds m controls words =
     ∷ IllegalBits ⇐ any_of reserved_bit controls
     ∷ []
 
--- the record is the next, or, where there is a ground, the one before
-abbrev pub unless_refused : (ground : Option Refusal) → (before next : Monitor) → Fed
-unless_refused none before next = record { monitor = next; outcome = Accepted }
-unless_refused (some why) before next = record { monitor = before; outcome = Refused why }
+-- accepted, unless there is a ground
+abbrev pub outcome_by : (ground : Option Refusal) → Result (Unit {0}) Refusal
+outcome_by none = Ok tt
+outcome_by (some why) = Err why
+
+-- the answer is the next record, unless there is a ground
+abbrev pub unless_refused : (ground : Option Refusal) → (next : Monitor) → Result Monitor Refusal
+unless_refused none next = Ok next
+unless_refused (some why) next = Err why
 
 -- what a record is fed with a burst: its cycles one after another, or, refused, nothing
-unfoldable pub fed_by : Monitor → (controls words : List ℕ) → Fed
+unfoldable pub fed_by : Monitor → (controls words : List ℕ) → Result Monitor Refusal
 fed_by m controls words =
-    unless_refused (first_applying (grounds m controls words)) m (after_cycles m (sample_at controls words) (length controls))
+    unless_refused (first_applying (grounds m controls words)) (after_cycles m (sample_at controls words) (length controls))
+
+-- the record that a burst leaves: the next, or, refused, the one before
+abbrev pub left_by : (before : Monitor) → (fed : Result Monitor Refusal) → Monitor
+left_by before (Ok next) = next
+left_by before (Err why) = before
+
+-- and how it ends
+abbrev pub outcome_of : (fed : Result Monitor Refusal) → Result (Unit {0}) Refusal
+outcome_of (Ok next) = Ok tt
+outcome_of (Err why) = Err why

@@ -1,6 +1,6 @@
 -- Requests T-05 and T-09: what a record that was fed with bursts says. Three theorems; `proofs/Cutting.antt` and `proofs/Reached.antt`
 -- have the proofs. Assumes nothing.
-use Rattle.std.specs.Prelude.{ℕ, ◌<◌, ◌≤◌, ◌^◌, Bool, true, cond, List, [], ◌∷◌, ◌++◌, ◌↔◌, ◌≡◌, length}
+use Rattle.std.specs.Prelude.{ℕ, ◌<◌, ◌≤◌, ◌^◌, Bool, true, cond, List, [], ◌∷◌, ◌++◌, ◌↔◌, ◌≡◌, length, Ok}
 use Rattle.std.proofs.Math.Option.{none}
 use Rattle.signals.specs.Judging.{Finding}
 use Rattle.signals.specs.Numbers.{in_three}
@@ -8,11 +8,10 @@ use Rattle.signals.specs.Refusals.{refusal_of, accepts}
 use Rattle.signals.specs.Stream.{sample_at}
 use Rattle.signals.specs.Tables.{first_applying}
 use Rattle.signals.specs.Written.{RuleName, judged}
-use Rattle.signals.specs.declared.Outcome.TheVariants.{Accepted}
 use Rattle.stream_checker.specs.Verdicts as whole
 use Rattle.stream_checker.specs.Verdicts.{Answer, answer_below, check_stream}
 use Rattle.monitor.specs.declared.Monitor.{Monitor}
-use Rattle.monitor.specs.Bursts.{max_seen, fed_by}
+use Rattle.monitor.specs.Bursts.{max_seen, fed_by, left_by}
 use Rattle.monitor.specs.Record.{fresh, legal}
 
 -- A burst as it is lent.
@@ -23,14 +22,14 @@ pub record Burst : Type 0 where
 -- the record after a list of bursts
 abbrev pub after : Monitor → List Burst → Monitor
 after m [] = m
-after m (b ∷ bursts) = after (fed_by m b.controls b.words).monitor bursts
+after m (b ∷ bursts) = after (left_by m (fed_by m b.controls b.words)) bursts
 
 -- those of them that are not refused
 abbrev pub taken : Monitor → List Burst → List Burst
 taken m [] = []
 taken m (b ∷ bursts) =
     let fed = fed_by m b.controls b.words in
-    cond (accepts (refusal_of fed.outcome)) (b ∷ taken fed.monitor bursts) (taken fed.monitor bursts)
+    cond (accepts (refusal_of fed)) (b ∷ taken (left_by m fed) bursts) (taken (left_by m fed) bursts)
 
 -- bursts one after another, as one
 abbrev pub joined : List Burst → Burst
@@ -83,8 +82,9 @@ RefusedExactly = (m : Monitor) → m.cycles ≤ max_seen → m.payload.«data» 
 
 -- One burst: a trace that `check_stream` accepts is accepted by a fresh record, which then says the same.
 pub record OneBurst (seq_on : Bool) (controls words : List ℕ) : Type 0 where
-  pub accepted : (fed_by (fresh seq_on) controls words).outcome ≡ Accepted
-  pub says : Says (fed_by (fresh seq_on) controls words).monitor (check_stream controls words seq_on)
+  pub next : Monitor
+  pub accepted : fed_by (fresh seq_on) controls words ≡ Ok next
+  pub says : Says next (check_stream controls words seq_on)
 
 abbrev pub AsOneBurst : Type 0
 AsOneBurst = (seq_on : Bool) (controls words : List ℕ) → first_applying (whole.grounds controls words) ≡ none → OneBurst seq_on controls words

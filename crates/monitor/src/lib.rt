@@ -9,18 +9,18 @@ mod form; // form.rt: the tests of refusal 6
 ghost use Rattle.std.specs.Prelude.{◌≡◌, ◌+◌};
 ghost use Rattle.signals.specs.Tables.{first_applying};
 ghost use Rattle.monitor.specs.Record.{fresh};
-ghost use Rattle.monitor.specs.Bursts.{max_seen, grounds, fed_by};
-ghost use Rattle.monitor.specs.Step.{outcome_by};
+ghost use Rattle.monitor.specs.Bursts.{max_seen, grounds, outcome_by, fed_by, left_by, outcome_of};
 
 use signals::stream::any_reserved;
-use signals::{CLEAN, Outcome, Payload, Refusal};
+use signals::{CLEAN, Payload, Refusal, ZEROS};
 
 // How many cycles a record may have seen in all.
 pub const MAX_SEEN: u32 = 4294967295;
 
-// A record of a stream that is checked in bursts. Callers lend it and read it; only these calls should write it.
+// A record of a stream that is checked in bursts. Callers lend it and read it; only these calls should write it. C reads it too, so that
+// it has numbers and flags in place of enums and options.
 #[repr(C)]
-#[derive(Clone, Copy)]
+#[derive(Clone, Copy, Debug, PartialEq, Eq)]
 pub struct Monitor {
     // Whether rule seq is judged.
     pub seq: bool,
@@ -41,13 +41,6 @@ pub struct Monitor {
     pub due: u32,
 }
 
-// The record after a burst, and how the call ended.
-#[derive(Clone, Copy)]
-pub struct Fed {
-    pub monitor: Monitor,
-    pub outcome: Outcome,
-}
-
 impl Monitor {
     // A record that has seen nothing; `seq` switches rule seq on, and stays.
     pub fn fresh(seq: bool) -> Monitor
@@ -62,7 +55,7 @@ impl Monitor {
             handshakes: 0,
             clears: 0,
             stalled: false,
-            payload: Payload { data: 0, strb: 0 },
+            payload: ZEROS,
             counted: false,
             due: 0,
         }
@@ -75,48 +68,41 @@ impl Monitor {
         (MAX_SEEN - self.cycles) as usize
     }
 
-    // The refusals 1, 3, 6 and 2, in this order.
-    fn refusal(self, control: &[u8], data: &[u32]) -> Outcome
+    // The refusals 1, 3, 6 and 2, in this order. A burst's two sequences go apart, as the public calls have them and `judge_cycles` takes
+    // them: a struct would be made here only to be taken apart there.
+    fn refusal(self, control: &[u8], data: &[u32]) -> Result<(), Refusal>
         ensures { result ≡ outcome_by (first_applying (grounds self control.now «data».now)) }
     {
         if control.len() != data.len() {
-            return Outcome::Refused(Refusal::LengthsDiffer);
+            return Err(Refusal::LengthsDiffer);
         }
         if control.len() > self.room() {
-            return Outcome::Refused(Refusal::TooLong);
+            return Err(Refusal::TooLong);
         }
-        if form::is_legal(self) {
-            if any_reserved(control) {
-                return Outcome::Refused(Refusal::IllegalBits);
-            }
-            return Outcome::Accepted;
+        if !self.is_legal() {
+            return Err(Refusal::BadState);
         }
-        Outcome::Refused(Refusal::BadState)
+        if any_reserved(control) {
+            return Err(Refusal::IllegalBits);
+        }
+        Ok(())
     }
 
     // The record after one more burst, for any record and any two sequences.
-    pub fn fed(self, control: &[u8], data: &[u32]) -> Fed
+    pub fn fed(mut self, control: &[u8], data: &[u32]) -> Result<Monitor, Refusal>
         ensures { result ≡ fed_by self control.now «data».now }
     {
-        match self.refusal(control, data) {
-            Outcome::Accepted => Fed {
-                monitor: burst::after(self, control, data),
-                outcome: Outcome::Accepted,
-            },
-            Outcome::Refused(why) => Fed {
-                monitor: self,
-                outcome: Outcome::Refused(why),
-            },
-        }
+        feed(&mut self, control, data)?;
+        Ok(self)
     }
 }
 
 // The same in place: the record that is lent becomes the one after the burst; refused, it stays as it was.
-pub fn feed(monitor: &mut Monitor, control: &[u8], data: &[u32]) -> Outcome
-    ensures { (monitor.new ≡ (fed_by monitor.old control.now «data».now).monitor)
-        × (result ≡ (fed_by monitor.old control.now «data».now).outcome) }
+pub fn feed(monitor: &mut Monitor, control: &[u8], data: &[u32]) -> Result<(), Refusal>
+    ensures { (monitor.new ≡ left_by monitor.old (fed_by monitor.old control.now «data».now))
+        × (result ≡ outcome_of (fed_by monitor.old control.now «data».now)) }
 {
-    let fed = (*monitor).fed(control, data);
-    *monitor = fed.monitor;
-    fed.outcome
+    monitor.refusal(control, data)?;
+    monitor.take(control, data);
+    Ok(())
 }
