@@ -17,7 +17,7 @@ use Rattle.trace_text.specs.RoundTrip.{OfForm, TooMany}
 use Rattle.trace_text.proofs.RoundTrip.{View, read, many, bad, view, many_reads}
 use Rattle.bench_text.specs.Report.{max_text, report_on, report_of}
 use Rattle.bench_text.specs.Room.{DecidedEarly}
-use Rattle.bench_text.proofs.Writing.{decimal_short, decimal_four}
+use Rattle.bench_text.proofs.Digits.{decimal_short, decimal_four}
 
 switch_length : (seq : Bool) → length (switch_line seq) ≤ 8
 switch_length true = omega arith

@@ -1,5 +1,4 @@
 pub mod DecidedEarly
+pub mod Digits
 pub mod NumbersFit
-pub mod Reporting
 pub mod WholeCase
-pub mod Writing

@@ -22,7 +22,7 @@ use Rattle.trace_text.specs.Form.{max_announced, Trace, Reading, reading}
 use Rattle.trace_text.proofs.RoundTrip.{means}
 use Rattle.bench_text.specs.Report.{max_report, rule_bytes, verdict_lines, lines, report_on, report_of}
 use Rattle.bench_text.specs.Room.{ReportsFit}
-use Rattle.bench_text.proofs.Writing.{decimal_short, decimal_four, decimal_zero}
+use Rattle.bench_text.proofs.Digits.{decimal_short, decimal_four, decimal_zero}
 
 -- a rule of the stream's is written in at most three bytes; where the cycle is a clear cycle there is none
 rule_short :

@@ -1,4 +1,3 @@
--- The report of a text and what `report` promises; the room that a program needs; and `Writing` for the private functions.
+-- The report of a text and what `report` promises; and the room that a program needs.
 pub mod Report
 pub mod Room
-pub mod Writing

@@ -8,12 +8,11 @@ mod write;
 
 ghost use Rattle.std.specs.Prelude.{◌≡◌};
 ghost use Rattle.bench_text.specs.Report.{max_text, max_report, report_of, Reports};
-ghost use Rattle.bench_text.specs.Writing.{Writes};
 
-use signals::Outcome;
+use signals::Refusal;
 use stream_checker::check_stream;
 use trace_text::{MAX_ANNOUNCED, Parsed, parse};
-use write::{ROOM, checked_lines, deliver, refused_lines};
+use write::{Report, checked_report, refused_report};
 
 // How many bytes of a text decide any answer: one more than the longest legal text has.
 pub const MAX_TEXT: usize = 53281;
@@ -34,33 +33,36 @@ pub fn max_report() -> usize
     MAX_REPORT
 }
 
-// Whether the report was written, and how many bytes it has.
-#[derive(Clone, Copy)]
-pub struct Reported {
-    pub outcome: Outcome,
-    pub count: usize,
-}
-
-// The report of a text, and how many bytes it has.
-fn made(text: &[u8], out: &mut [u8; ROOM]) -> usize
-    ensures { Writes out.old 0 (report_of text.now) result out.new }
+// The report of a text.
+#[tactic(auto, unfolding(crate::specs::Report::report_of))]
+fn made(text: &[u8]) -> Report
+    ensures { result ≡ report_of text.now }
 {
-    let mut control = [0u8; MAX_ANNOUNCED];
-    let mut words = [0u32; MAX_ANNOUNCED];
+    let mut control = [0; MAX_ANNOUNCED];
+    let mut words = [0; MAX_ANNOUNCED];
     match parse(text, &mut control, &mut words) {
-        Parsed::Trace { seq, cycles } => {
-            let checked = check_stream(&control[..cycles], &words[..cycles], seq);
-            checked_lines(out, cycles, checked)
-        }
-        Parsed::Refused(why) => refused_lines(out, why, 0, 0),
+        Ok(Parsed { seq, cycles }) => match check_stream(
+            &control[..cycles],
+            &words[..cycles],
+            seq,
+        ) {
+            Ok(checked) => checked_report(cycles, checked),
+            Err(why) => refused_report(why),
+        },
+        Err(why) => refused_report(why),
     }
 }
 
-// Writes the report of a text at the start of `out`. An output that is too short is left as it was.
-pub fn report(text: &[u8], out: &mut [u8]) -> Reported
+// Writes the report of a text at the start of `out`, and answers how many bytes it has. An output that is too short is left as it was.
+pub fn report(text: &[u8], out: &mut [u8]) -> Result<usize, Refusal>
     ensures { Reports text.now out.old result out.new }
 {
-    let mut whole = [0u8; ROOM];
-    let count = made(text, &mut whole);
-    deliver(&whole[..count], out)
+    let report = made(text);
+    let bytes = report.bytes();
+    let count = bytes.len();
+    if out.len() < count {
+        return Err(Refusal::OutputTooShort);
+    }
+    out[..count].copy_from_slice(bytes);
+    Ok(count)
 }

@@ -1,45 +1,85 @@
-// Writes the lines of a report into an array, from a place on.
+// Writes the lines of a report.
 //
-// `specs/Report.antt` has the lines, and `specs/Writing.antt` says what stands in the array afterwards.
-ghost use Rattle.std.specs.Prelude.{◌≡◌, ◌+◌, ◌≤◌, ◌%◌, length};
+// `specs/Report.antt` has the lines. A report is seen as the list of its bytes.
+ghost use Rattle.std.specs.Prelude.{◌≡◌, ◌+◌, ◌≤◌, ◌%◌, ◌++◌, [], length, nat_le, Ok};
+ghost use Rattle.std.specs.List.{prefix_len};
 ghost use Rattle.signals.specs.Refusals.{number_of};
 ghost use Rattle.signals.specs.Written.{refused};
-ghost use Rattle.stream_checker.specs.Written.{written};
-ghost use Rattle.trace_text.specs.Digits.{digit_byte, fixed, decimal};
+ghost use Rattle.stream_checker.specs.Written.{written, rule_name};
+ghost use Rattle.trace_text.specs.Digits.{digit_byte, fixed, without_zeros, decimal};
 ghost use Rattle.bench_text.specs.Report as spec;
-ghost use Rattle.bench_text.specs.Report.{seven_lines, verdict_lines, lines, Delivers};
-ghost use Rattle.bench_text.specs.Writing.{Writes, Puts, FirstDigit};
+ghost use Rattle.bench_text.specs.Report.{seven_lines, verdict_lines, lines, rule_bytes};
 
-use crate::Reported;
-use signals::{Outcome, Refusal};
-use stream_checker::{Checked, Rule, Verdict};
+use signals::Refusal;
+use std::marker::Model;
+use stream_checker::{Checked, Rule};
 
 // Room for seven lines whose numbers have five digits each.
-pub const ROOM: usize = 91;
+const ROOM: usize = 91;
 
-// Given bytes, from a place on; answers the place after them.
-fn put(out: &mut [u8], at: usize, given: &[u8]) -> usize
-    requires { at + length given.now ≤ length out.old }
-    ensures { Puts out.old at given.now result out.new }
-{
-    let mut i = 0;
-    let mut next = at;
-    while i < given.len() {
-        out[next] = given[i];
-        next += 1;
-        i += 1;
-    }
-    next
+// A report, as far as it is written.
+#[derive(Drop)]
+pub struct Report {
+    room: [u8; ROOM],
+    count: usize,
 }
 
-// A line of a key and its value.
-fn line(out: &mut [u8], at: usize, key: &[u8], value: &[u8]) -> usize
-    requires { at + length key.now + length value.now + 1 ≤ length out.old }
-    ensures { Writes out.old at (spec.line key.now value.now) result out.new }
-{
-    let second = put(out, at, key);
-    let end = put(out, second, value);
-    put(out, end, b"\n")
+impl Model for Report {
+    ghost use Rattle.std.specs.Prelude.{◌≤◌, List, ℕ, take};
+    ghost use Rattle.bench_text.specs.declared.write.TheConstants.{ROOM};
+
+    ghost Value = { List ℕ };
+
+    ghost view = { λ r. take r.count r.room };
+
+    ghost invariant = { λ r. r.count ≤ ROOM };
+}
+
+impl Report {
+    fn new() -> Self
+        ensures { result ≡ [] }
+    {
+        Report {
+            room: [0; ROOM],
+            count: 0,
+        }
+    }
+
+    // The bytes that are written.
+    pub fn bytes(&self) -> &[u8]
+        ensures { result.now ≡ self.now }
+    {
+        &self.room[..self.count]
+    }
+
+    // Given bytes, after the others.
+    fn put(&mut self, given: &[u8])
+        requires { length self.old + length given.now ≤ ROOM }
+        ensures { self.new ≡ self.old ++ given.now }
+    {
+        let end = self.count + given.len();
+        self.room[self.count..end].copy_from_slice(given);
+        self.count = end;
+    }
+
+    // A line of a key and its value.
+    fn line(&mut self, key: &[u8], value: &[u8])
+        requires { length self.old + length key.now + length value.now + 1 ≤ ROOM }
+        ensures { self.new ≡ self.old ++ spec.line key.now value.now }
+    {
+        self.put(key);
+        self.put(value);
+        self.put(b"\n");
+    }
+
+    // A line of a key and a number.
+    #[tactic(auto, unfolding(trace_text::specs::Digits::decimal))]
+    fn number_line(&mut self, key: &[u8], n: usize)
+        requires { length self.old + length key.now + 6 ≤ ROOM }
+        ensures { self.new ≡ self.old ++ spec.line key.now (decimal n) }
+    {
+        self.line(key, significant(&five_digits(n)));
+    }
 }
 
 // The byte of a number's lowest decimal digit.
@@ -49,7 +89,8 @@ fn figure(n: usize) -> u8
     b'0' + (n % 10) as u8
 }
 
-// A number's lowest five decimal digits.
+// A number's lowest five decimal digits. By hand, which is no longer: what std prints of a number is the report's only below 100,000, and
+// each count would have to bring that bound along from the checker.
 fn five_digits(n: usize) -> [u8; 5]
     ensures { result ≡ fixed 10 5 n }
 {
@@ -66,98 +107,101 @@ fn five_digits(n: usize) -> [u8; 5]
     ]
 }
 
-// Where the first digit stands that is no leading zero.
-fn first_digit(digits: &[u8]) -> usize
+// How many zeros come before the first other digit.
+fn leading_zeros(digits: &[u8]) -> usize
+    ensures { result ≡ prefix_len (λ d. nat_le d 48) digits.now }
+{
+    digits.iter().take_while(|digit| **digit <= b'0').count()
+}
+
+// Digits without leading zeros, of which the last stays.
+fn significant(digits: &[u8]) -> &[u8]
     requires { 1 ≤ length digits.now }
-    ensures { FirstDigit digits.now result }
+    ensures { result.now ≡ without_zeros digits.now }
 {
-    let mut i = 0;
-    while i < digits.len() - 1 {
-        if b'0' < digits[i] {
-            return i;
-        }
-        i += 1;
+    let first = leading_zeros(digits).min(digits.len() - 1);
+    &digits[first..]
+}
+
+// The bytes of a rule's name.
+#[tactic(auto, unfolding(trace_text::specs::Digits::decimal))]
+fn rule_bytes(rule: Rule) -> &'static [u8]
+    ensures { result.now ≡ rule_bytes (rule_name rule) }
+{
+    match rule {
+        Rule::Held => b"4",
+        Rule::Stable => b"2",
+        Rule::Seq => b"seq",
     }
-    i
 }
 
-// A line of a key and a number.
-fn number_line(out: &mut [u8], at: usize, key: &[u8], n: usize) -> usize
-    requires { at + length key.now + 6 ≤ length out.old }
-    ensures { Writes out.old at (spec.line key.now (decimal n)) result out.new }
-{
-    let digits = five_digits(n);
-    let first = first_digit(&digits);
-    line(out, at, key, &digits[first..])
-}
-
-// The seven lines of a report.
-fn seven_lines(
-    out: &mut [u8; ROOM],
-    kind: &[u8],
+// What the seven lines of a report say.
+#[derive(Clone, Copy)]
+struct Said<'a> {
+    kind: &'a [u8],
     cycles: usize,
-    verdict: &[u8],
-    rule: &[u8],
+    verdict: &'a [u8],
+    rule: &'a [u8],
     at: u32,
     handshakes: u32,
     clears: u32,
-) -> usize
-    requires { (length kind.now ≤ 6) × (length verdict.now ≤ 7) × (length rule.now ≤ 5) }
-    ensures { Writes out.old 0 (seven_lines kind.now cycles verdict.now rule.now at handshakes clears) result out.new }
-{
-    let second = line(out, 0, b"kind=", kind);
-    let third = number_line(out, second, b"cycles=", cycles);
-    let fourth = line(out, third, b"verdict=", verdict);
-    let fifth = line(out, fourth, b"rule=", rule);
-    let sixth = number_line(out, fifth, b"at=", at as usize);
-    let seventh = number_line(out, sixth, b"handshakes=", handshakes as usize);
-    number_line(out, seventh, b"clears=", clears as usize)
 }
 
-// The report of a refusal, and of the two counts beside it.
-pub fn refused_lines(out: &mut [u8; ROOM], why: Refusal, handshakes: u32, clears: u32) -> usize
-    ensures { Writes out.old 0 (verdict_lines 0 handshakes clears (refused (number_of why))) result out.new }
+// The seven lines of a report.
+#[tactic(auto, using(crate::proofs::Digits::lengths))]
+fn seven_lines(said: Said) -> Report
+    requires { (length said.kind.now ≤ 6) × (length said.verdict.now ≤ 7) × (length said.rule.now ≤ 5) }
+    ensures { result ≡ seven_lines said.entry.kind.now said.entry.cycles said.entry.verdict.now said.entry.rule.now said.entry.at said.entry.handshakes said.entry.clears }
 {
-    let digits = five_digits(why.number() as usize);
-    let first = first_digit(&digits);
-    let rule = &digits[first..];
-    seven_lines(out, b"none", 0, b"refused", rule, 0, handshakes, clears)
+    let mut report = Report::new();
+    report.line(b"kind=", said.kind);
+    report.number_line(b"cycles=", said.cycles);
+    report.line(b"verdict=", said.verdict);
+    report.line(b"rule=", said.rule);
+    report.number_line(b"at=", said.at as usize);
+    report.number_line(b"handshakes=", said.handshakes as usize);
+    report.number_line(b"clears=", said.clears as usize);
+    report
 }
 
-// The report of a verdict on a trace of so many cycles.
-pub fn checked_lines(out: &mut [u8; ROOM], cycles: usize, checked: Checked) -> usize
-    ensures { Writes out.old 0 (lines cycles (written checked)) result out.new }
+// The report of a refusal.
+#[tactic(auto, using(crate::proofs::Digits::lengths), unfolding(trace_text::specs::Digits::decimal))]
+pub fn refused_report(why: Refusal) -> Report
+    ensures { result ≡ verdict_lines 0 0 0 (refused (number_of why)) }
 {
-    let handshakes = checked.handshakes;
-    let clears = checked.clears;
-    let kind = b"stream";
-    let verdict = checked.verdict;
-    match verdict {
-        Verdict::Clean => seven_lines(out, kind, cycles, b"clean", b"0", 0, handshakes, clears),
-        Verdict::Broken(rule, at) => match rule {
-            Rule::Held => seven_lines(out, kind, cycles, b"broken", b"4", at, handshakes, clears),
-            Rule::Stable => seven_lines(out, kind, cycles, b"broken", b"2", at, handshakes, clears),
-            Rule::Seq => seven_lines(out, kind, cycles, b"broken", b"seq", at, handshakes, clears),
-        },
-        Verdict::Refused(why) => refused_lines(out, why, handshakes, clears),
-    }
+    let digits = five_digits(usize::from(why.number()));
+    seven_lines(Said {
+        kind: b"none",
+        cycles: 0,
+        verdict: b"refused",
+        rule: significant(&digits),
+        at: 0,
+        handshakes: 0,
+        clears: 0,
+    })
 }
 
-// Given bytes at the start of an output that has room for them; another is left as it was.
-pub fn deliver(given: &[u8], out: &mut [u8]) -> Reported
-    ensures { Delivers given.now out.old result out.new }
+// The report of what is found in a trace of so many cycles.
+#[tactic(auto, using(crate::proofs::Digits::lengths), unfolding(trace_text::specs::Digits::decimal))]
+pub fn checked_report(cycles: usize, checked: Checked) -> Report
+    ensures { result ≡ lines cycles (written (Ok checked)) }
 {
-    let count = given.len();
-    if count <= out.len() {
-        put(out, 0, given);
-        Reported {
-            outcome: Outcome::Accepted,
-            count,
-        }
-    } else {
-        Reported {
-            outcome: Outcome::Refused(Refusal::OutputTooShort),
-            count: 0,
-        }
+    let clean = Said {
+        kind: b"stream",
+        cycles,
+        verdict: b"clean",
+        rule: b"0",
+        at: 0,
+        handshakes: checked.handshakes,
+        clears: checked.clears,
+    };
+    match checked.breach {
+        None => seven_lines(clean),
+        Some(breach) => seven_lines(Said {
+            verdict: b"broken",
+            rule: rule_bytes(breach.rule),
+            at: breach.cycle,
+            ..clean
+        }),
     }
 }

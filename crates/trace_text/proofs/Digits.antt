@@ -37,11 +37,9 @@ digit_small base b d e = ⊎_elim figure (λ f. ⊎_elim (letter f) (neither f) 
         let s : ◌≡◌ {A = Option ℕ} none (some d) = rw (f, g) at e in
         absurd (clash cc)
 
-pub decimal_digit : (b d : ℕ) → digit_of 10 b ≡ some d → d < 10
-decimal_digit b d e = ⊎_elim (λ h. h) (λ h. omega arith) (digit_small 10 b d e)
-
-pub hex_digit_lem : (b d : ℕ) → digit_of 16 b ≡ some d → d < 16
-hex_digit_lem b d e = ⊎_elim (λ h. omega arith) (λ h. h.1) (digit_small 16 b d e)
+-- in base 10 or 16 a digit is below the base
+pub digit_below : (base b d : ℕ) → 10 ≤ base → digit_of base b ≡ some d → d < base
+digit_below base b d h e = ⊎_elim (λ k. omega arith) (λ k. omega arith) (digit_small base b d e)
 
 -- one digit takes one place
 pub room_step : (base n left d : ℕ) → d < base → (n * base + d + 1) * base ^ left ≤ (n + 1) * base ^ suc left

@@ -1,7 +1,5 @@
 pub mod Digits
-pub mod Lines
-pub mod Literals
-pub mod Numbers
+pub mod Parts
 pub mod Reading
 pub mod RoundTrip
 pub mod Spelling

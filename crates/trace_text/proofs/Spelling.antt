@@ -15,7 +15,7 @@ use lib.Dec.{leb, ltb, eqb, eqb-suc-zero}
 use Rattle.signals.proofs.Bools.{either, both, clash}
 use Rattle.trace_text.specs.Digits.{digit_byte, digit_of, fixed, number_from, without_zeros, decimal}
 use Rattle.trace_text.specs.Form.{Front, digits, or_end, legal_number, number, hex_from, at_front, then}
-use Rattle.trace_text.proofs.Digits.{decimal_digit, hex_digit_lem, room_step}
+use Rattle.trace_text.proofs.Digits.{digit_below, room_step}
 
 -- one digit, both ways
 
@@ -132,7 +132,7 @@ digits_read (b ∷ text) = of (digit_of 10 b) refl (digits_read text)
     of none e r = record { under = tt; text_is = refl }
     of (some d) e r =
         record {
-          under = (decimal_digit b d e, r.under);
+          under = (digit_below 10 b d (omega arith) e, r.under);
           text_is = ap (λ (x : ℕ). x ∷ text) (digit_byte_lem 10 b d e) ∙ ap (λ (l : List ℕ). digit_byte d ∷ l) r.text_is;
         }
 
@@ -276,7 +276,7 @@ hex_read (suc k) n (b ∷ text) front e = of (digit_of 16 b) refl e (λ d. hex_r
         let r = more d q in
         record {
           spelling = d ∷ r.spelling;
-          under = (hex_digit_lem b d i, r.under);
+          under = (digit_below 16 b d (omega arith) i, r.under);
           long = ap suc r.long;
           value = r.value;
           text_is = ap (λ (x : ℕ). x ∷ text) (digit_byte_lem 16 b d i) ∙ ap (λ (l : List ℕ). digit_byte d ∷ l) r.text_is;

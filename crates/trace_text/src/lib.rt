@@ -1,281 +1,156 @@
-// From the bytes of a bench text to its trace. Each function reads one part of the form at a place of the text.
+// From the bytes of a bench text to its trace. Each function reads one part of the form at the front of a text, and answers with what it
+// read and the rest of the text.
 //
 // Writes out the form of "Bench text" of document 01. `specs/Form.antt` has the form, `specs/Parsing.antt` what `parse` promises, and
-// `specs/Places.antt` what an answer of the other functions means for the form.
+// `specs/Parts.antt` what an answer of the other functions means for the form.
 #![tactic(auto)]
 
-ghost use Rattle.std.specs.Prelude.{◌≡◌, ◌≤◌, ◌+◌, ◌*◌, ◌^◌, length, drop};
+ghost use Rattle.std.specs.Prelude.{◌≡◌, ◌≤◌, ◌^◌, length, take};
+ghost use Rattle.std.specs.Char.{is_ascii_digit};
+ghost use Rattle.std.specs.List.{prefix_len};
 ghost use Rattle.trace_text.specs.Digits.{digit_of};
 ghost use Rattle.trace_text.specs.Form as form;
 ghost use Rattle.trace_text.specs.Parsing.{Parses};
-ghost use Rattle.trace_text.specs.Places.{placed, switched, digit_found, more_digits, numbered, ReadsHex, lined, headed, ReadsLines};
+ghost use Rattle.trace_text.specs.Parts.{rest_after, front, found, number_of, header_front, entry_front, columns, columns_read};
 
 use signals::Refusal;
 
 // The longest trace that a text may announce.
 pub const MAX_ANNOUNCED: usize = 4096;
 
-// How many digits the announced number may have after its first.
-const MORE_DIGITS: usize = 4;
+// How many digits the announced number may have.
+const MAX_DIGITS: usize = 5;
 
-// Where the text goes on after given bytes, if they are there.
-#[derive(Clone, Copy)]
-enum Place {
-    After(usize),
-    Nowhere,
+// What a cycle line records.
+#[derive(Clone, Copy, Debug, PartialEq, Eq)]
+struct Entry {
+    control: u8,
+    word: u32,
 }
 
-// The switch, and where the text goes on.
-#[derive(Clone, Copy)]
-enum Switched {
-    Set { on: bool, next: usize },
-    Bad,
+// What the header of a text says: whether its counter is checked, and how many cycles follow.
+#[derive(Clone, Copy, Debug, PartialEq, Eq)]
+pub struct Parsed {
+    pub seq: bool,
+    pub cycles: usize,
 }
 
-// The digit that a byte writes.
-#[derive(Clone, Copy)]
-enum Digit {
-    Is(u8),
-    Not,
-}
-
-// A number, and where the text goes on.
-#[derive(Clone, Copy)]
-enum Number {
-    Is { value: u32, next: usize },
-    Bad,
-}
-
-// A cycle line's entry, and where the text goes on.
-#[derive(Clone, Copy)]
-enum Line {
-    Cycle { control: u8, word: u32, next: usize },
-    Bad,
-}
-
-// What the three header lines say, and where the text goes on.
-#[derive(Clone, Copy)]
-enum Headed {
-    Good { seq: bool, cycles: u32, next: usize },
-    Bad,
-}
-
-// A trace of so many cycles with its switch, or what is wrong with the text.
-#[derive(Clone, Copy)]
-pub enum Parsed {
-    Trace { seq: bool, cycles: usize },
-    Refused(Refusal),
-}
-
-// Given bytes at a place.
-fn literal(text: &[u8], at: usize, given: &[u8]) -> Place
-    ensures { form.literal given.now (drop at text.now) ≡ placed result text.now }
+// Given bytes at the front of a text.
+fn literal<'a>(text: &'a [u8], given: &[u8]) -> Option<&'a [u8]>
+    ensures { form.literal given.now text.now ≡ rest_after result }
 {
-    let mut next = at;
-    let mut i = 0;
-    while i < given.len() {
-        if text.len() <= next {
-            return Place::Nowhere;
-        }
-        if text[next] != given[i] {
-            return Place::Nowhere;
-        }
-        next += 1;
-        i += 1;
-    }
-    Place::After(next)
+    text.strip_prefix(given)
 }
 
 // The second header line.
-fn switch(text: &[u8], at: usize) -> Switched
-    ensures { form.switch (drop at text.now) ≡ switched result text.now }
+fn switch(text: &[u8]) -> Option<(bool, &[u8])>
+    ensures { form.switch text.now ≡ front result }
 {
-    match literal(text, at, b"seq=on\n") {
-        Place::After(next) => Switched::Set { on: true, next },
-        Place::Nowhere => match literal(text, at, b"seq=off\n") {
-            Place::After(next) => Switched::Set { on: false, next },
-            Place::Nowhere => Switched::Bad,
-        },
+    match literal(text, b"seq=on\n") {
+        Some(rest) => Some((true, rest)),
+        None => Some((false, literal(text, b"seq=off\n")?)),
     }
 }
 
 // The digit of a byte in base 10 or 16.
-fn digit_of(base: u8, byte: u8) -> Digit
-    ensures { digit_of base byte ≡ digit_found result }
+fn digit_of(base: u32, byte: u8) -> Option<u32>
+    ensures { digit_of base byte ≡ found result }
 {
-    if (b'0' <= byte) & (byte <= b'9') {
-        return Digit::Is(byte - b'0');
+    match byte {
+        b'0'..=b'9' => Some(u32::from(byte - b'0')),
+        b'a'..=b'f' if 16 <= base => Some(u32::from(byte - b'a' + 10)),
+        _ => None,
     }
-    if (16 <= base) & ((b'a' <= byte) & (byte <= b'f')) {
-        return Digit::Is(byte - 87);
-    }
-    Digit::Not
 }
 
-// The decimal digits from a place on, after those that stand for `first`, if there are no more than `room`.
-fn more_digits(text: &[u8], at: usize, first: u32, room: usize) -> Number
-    requires { (first + 1) * 10 ^ room ≤ 10 ^ 5 }
-    ensures { more_digits first room (form.digits (drop at text.now)) ≡ numbered result text.now }
+// The number that digits in base 10 or 16 stand for, the highest first, if all are digits. By hand, since `from_str_radix` takes a sign
+// and upper-case letters too, which the form refuses.
+fn number(base: u32, digits: &[u8]) -> Option<u32>
+    requires { (10 ≤ base) × (base ^ length digits.now ≤ 2 ^ 32) }
+    ensures { number_of base 0 digits.now ≡ found result }
 {
-    let mut value = first;
-    let mut next = at;
-    let mut left = room;
-    while next < text.len() {
-        let Digit::Is(d) = digit_of(10, text[next]) else {
-            return Number::Is { value, next };
-        };
-        if left == 0 {
-            return Number::Bad;
-        }
-        let digit = d as u32;
-        value = value * 10 + digit;
-        next += 1;
-        left -= 1;
+    let mut value = 0;
+    for byte in digits {
+        let digit = digit_of(base, *byte)?;
+        value = value * base + digit;
     }
-    Number::Is { value, next }
+    Some(value)
+}
+
+// How many decimal digits a text begins with.
+fn digit_count(text: &[u8]) -> usize
+    ensures { result ≡ prefix_len is_ascii_digit text.now }
+{
+    text.iter().take_while(|byte| byte.is_ascii_digit()).count()
 }
 
 // A number of one to five digits, with no leading zero but 0 itself.
-fn short_number(text: &[u8], at: usize) -> Number
-    ensures { form.number (drop at text.now) ≡ numbered result text.now }
+fn short_number(text: &[u8]) -> Option<(u32, &[u8])>
+    ensures { form.number text.now ≡ front result }
 {
-    if text.len() <= at {
-        return Number::Bad;
+    let count = digit_count(text);
+    if count == 0 || MAX_DIGITS < count || (text[0] == b'0' && count != 1) {
+        return None;
     }
-    let Digit::Is(d) = digit_of(10, text[at]) else {
-        return Number::Bad;
-    };
-    if d == 0 {
-        more_digits(text, at + 1, 0, 0)
-    } else {
-        more_digits(text, at + 1, d as u32, MORE_DIGITS)
-    }
+    let (digits, rest) = text.split_at(count);
+    Some((number(10, digits)?, rest))
 }
 
 // The third header line.
-fn announced(text: &[u8], at: usize) -> Number
-    ensures { form.announced (drop at text.now) ≡ numbered result text.now }
+fn announced(text: &[u8]) -> Option<(u32, &[u8])>
+    ensures { form.announced text.now ≡ front result }
 {
-    let Place::After(first) = literal(text, at, b"cycles=") else {
-        return Number::Bad;
-    };
-    let Number::Is { value, next } = short_number(text, first) else {
-        return Number::Bad;
-    };
-    let Place::After(rest) = literal(text, next, b"\n") else {
-        return Number::Bad;
-    };
-    Number::Is { value, next: rest }
+    let rest = literal(text, b"cycles=")?;
+    let (cycles, rest) = short_number(rest)?;
+    Some((cycles, literal(rest, b"\n")?))
 }
 
-// So many hex digits at a place, the highest first.
-fn hex(text: &[u8], at: usize, digits: usize) -> Number
-    requires { 16 ^ digits ≤ 2 ^ 32 }
-    ensures { ReadsHex text.now digits at result }
+// So many hex digits, the highest first.
+fn hex(text: &[u8], count: usize) -> Option<(u32, &[u8])>
+    requires { 16 ^ count ≤ 2 ^ 32 }
+    ensures { form.hex_from 0 count text.now ≡ front result }
 {
-    let mut value: u32 = 0;
-    let mut next = at;
-    let mut left = digits;
-    while 0 < left {
-        if text.len() <= next {
-            return Number::Bad;
-        }
-        let Digit::Is(d) = digit_of(16, text[next]) else {
-            return Number::Bad;
-        };
-        let digit = d as u32;
-        value = value * 16 + digit;
-        next += 1;
-        left -= 1;
-    }
-    Number::Is { value, next }
+    let (digits, rest) = text.split_at_checked(count)?;
+    Some((number(16, digits)?, rest))
 }
 
 // One cycle line.
-fn cycle_line(text: &[u8], at: usize) -> Line
-    ensures { form.cycle_line (drop at text.now) ≡ lined result text.now }
+fn cycle_line(text: &[u8]) -> Option<(Entry, &[u8])>
+    ensures { form.cycle_line text.now ≡ entry_front result }
 {
-    let Place::After(first) = literal(text, at, b"c=") else {
-        return Line::Bad;
-    };
-    let Number::Is {
-        value: control,
-        next: second,
-    } = hex(text, first, 2)
-    else {
-        return Line::Bad;
-    };
-    let Number::Is {
-        value: word,
-        next: end,
-    } = hex(text, second, 8)
-    else {
-        return Line::Bad;
-    };
-    let byte = control as u8;
-    match literal(text, end, b"\n") {
-        Place::After(next) => Line::Cycle {
-            control: byte,
-            word,
-            next,
-        },
-        Place::Nowhere => Line::Bad,
-    }
+    let rest = literal(text, b"c=")?;
+    let (control, rest) = hex(rest, 2)?;
+    let (word, rest) = hex(rest, 8)?;
+    let rest = literal(rest, b"\n")?;
+    let control = control as u8;
+    Some((Entry { control, word }, rest))
 }
 
 // The three header lines.
-fn header(text: &[u8]) -> Headed
-    ensures { form.header text.now ≡ headed result text.now }
+fn header(text: &[u8]) -> Option<(Parsed, &[u8])>
+    ensures { form.header text.now ≡ header_front result }
 {
-    let Place::After(second) = literal(text, 0, b"kind=stream\n") else {
-        return Headed::Bad;
-    };
-    let Switched::Set { on, next: third } = switch(text, second) else {
-        return Headed::Bad;
-    };
-    let Number::Is { value, next } = announced(text, third) else {
-        return Headed::Bad;
-    };
-    Headed::Good {
-        seq: on,
-        cycles: value,
-        next,
-    }
+    let rest = literal(text, b"kind=stream\n")?;
+    let (seq, rest) = switch(rest)?;
+    let (cycles, rest) = announced(rest)?;
+    let cycles = cycles as usize;
+    Some((Parsed { seq, cycles }, rest))
 }
 
 // So many cycle lines and nothing after them, written into two arrays.
-fn cycle_lines(
-    text: &[u8],
-    from: usize,
-    seq: bool,
-    cycles: usize,
-    control: &mut [u8],
-    words: &mut [u32],
-) -> Parsed
+fn cycle_lines(text: &[u8], cycles: usize, control: &mut [u8], words: &mut [u32]) -> Option<()>
     requires { (cycles ≤ length control.old) × (cycles ≤ length words.old) }
-    ensures { ReadsLines text.now from seq cycles result control.new words.new }
+    ensures { columns (form.cycle_lines cycles text.now) ≡ columns_read result (take cycles control.new) (take cycles words.new) }
 {
-    let mut here = from;
-    let mut i = 0;
-    while i < cycles {
-        let Line::Cycle {
-            control: byte,
-            word,
-            next,
-        } = cycle_line(text, here)
-        else {
-            return Parsed::Refused(Refusal::BadText);
-        };
-        control[i] = byte;
-        words[i] = word;
-        here = next;
-        i += 1;
+    let mut rest = text;
+    // By the index: of what is written through a zip of two `iter_mut` a proof knows no element.
+    for i in 0..cycles {
+        let (entry, after) = cycle_line(rest)?;
+        control[i] = entry.control;
+        words[i] = entry.word;
+        rest = after;
     }
-    if text.len() <= here {
-        Parsed::Trace { seq, cycles }
-    } else {
-        Parsed::Refused(Refusal::BadText)
-    }
+    if rest.is_empty() { Some(()) } else { None }
 }
 
 // A whole text. The trace is written into two arrays that hold the longest; they are left as they were where the text is refused.
@@ -283,32 +158,18 @@ pub fn parse(
     text: &[u8],
     control: &mut [u8; MAX_ANNOUNCED],
     words: &mut [u32; MAX_ANNOUNCED],
-) -> Parsed
+) -> Result<Parsed, Refusal>
     ensures { Parses text.now control.old words.old result control.new words.new }
 {
-    match header(text) {
-        Headed::Good { seq, cycles, next } => {
-            let count = cycles as usize;
-            if MAX_ANNOUNCED < count {
-                return Parsed::Refused(Refusal::TooLong);
-            }
-            let mut read_control = [0u8; MAX_ANNOUNCED];
-            let mut read_words = [0u32; MAX_ANNOUNCED];
-            match cycle_lines(text, next, seq, count, &mut read_control, &mut read_words) {
-                Parsed::Trace {
-                    seq: on,
-                    cycles: read,
-                } => {
-                    *control = read_control;
-                    *words = read_words;
-                    Parsed::Trace {
-                        seq: on,
-                        cycles: read,
-                    }
-                }
-                Parsed::Refused(why) => Parsed::Refused(why),
-            }
-        }
-        Headed::Bad => Parsed::Refused(Refusal::BadText),
+    let (parsed, lines) = header(text).ok_or(Refusal::BadText)?;
+    if MAX_ANNOUNCED < parsed.cycles {
+        return Err(Refusal::TooLong);
     }
+    // Arrays of its own: a text that is refused at its last line leaves the lent ones as they were (`kept` of `Parses`).
+    let mut read_control = [0; MAX_ANNOUNCED];
+    let mut read_words = [0; MAX_ANNOUNCED];
+    cycle_lines(lines, parsed.cycles, &mut read_control, &mut read_words).ok_or(Refusal::BadText)?;
+    *control = read_control;
+    *words = read_words;
+    Ok(parsed)
 }

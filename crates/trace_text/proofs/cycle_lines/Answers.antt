@@ -1,31 +1,16 @@
--- `trace_text::cycle_lines` meets its contract. The invariant: the entries written so far, with the lines from `at` on, answer for all.
+-- `trace_text::cycle_lines` meets its contract. The invariant: the entries written so far, with the lines from here on, answer for all.
 -- Assumes nothing.
-use native.Mathlib.Omega.{arith}
-use lib.ListN.{length-set}
-use Rattle.trace_text.proofs.Lines.{lines_go_on, lines_end, lines_surplus}
+use Rattle.std.proofs.Common.{arith}
+use Rattle.trace_text.proofs.Parts.{lines_stop, lines_go_on}
 use Rattle.trace_text.proofs.cycle_lines.Goals as goal
+
+pub returns-in_err-entry : goal.returns-in_err-entry
+returns-in_err-entry c =
+    let l = c.loop-i in
+    rw c.from_residual.ensures (lines_stop l.rest.now c.args.cycles l.i l.control l.words _ l.invariant (omega arith) c.in_err-entry.ensures)
 
 pub loop-i-preserved : goal.loop-i-preserved
 loop-i-preserved c =
-    let l = c.loop-i in (
-      omega arith,
-      simp length-set l.invariant.1,
-      simp length-set l.invariant.2,
-      lines_go_on _ _ _ l.i l.here _ _ _ l.invariant.3 _ _ c.in-Cycle.next (omega arith) (omega arith) (omega arith) (rw c.in-Cycle.is at c.cycle_line.ensures),
-    )
-
-pub returns-then-text-here : goal.returns-then-text-here
-returns-then-text-here c =
     let l = c.loop-i in
-    record {
-      reads = lines_end _ _ _ l.i l.here _ _ _ l.invariant.3 (omega arith) (omega arith) (omega arith);
-      within = (omega arith, omega arith);
-    }
-
-pub returns-else-text-here : goal.returns-else-text-here
-returns-else-text-here c =
-    let l = c.loop-i in
-    record {
-      reads = lines_surplus _ _ _ l.i l.here _ _ _ l.invariant.3 (omega arith) (omega arith);
-      within = (omega arith, omega arith);
-    }
+    let read = c.in_ok-entry in
+    lines_go_on l.rest.now c.args.cycles l.i l.control l.words _ l.invariant read.entry.control read.entry.word read.after.now (omega arith) (omega arith) (omega arith) read.ensures

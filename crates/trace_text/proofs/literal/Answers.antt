@@ -1,9 +1,8 @@
--- `trace_text::literal` meets its contract. The invariant: the given bytes from `i` on, compared with the text from `next` on, answer for all.
--- Assumes nothing.
-use native.Mathlib.Omega.{arith}
-use Rattle.trace_text.proofs.Literals.{literal_short}
+-- `trace_text::literal` meets its contract: the text without its prefix is what follows the given bytes. Assumes nothing.
+use Rattle.std.proofs.lemmas.Bool.Decides.{Decides-eqb}
+use Rattle.std.proofs.lemmas.Slice.Eq.{strip_prefix_is}
+use Rattle.trace_text.proofs.Parts.{literal_is}
 use Rattle.trace_text.proofs.literal.Goals as goal
 
-pub returns-then-text-next : goal.returns-then-text-next
-returns-then-text-next c =
-    let l = c.loop-i in literal_short _ _ l.i l.next _ l.invariant.1 (omega arith) (omega arith)
+pub returns : goal.returns
+returns c = literal_is c.args.given.now c.args.text.now c.strip_prefix.result (strip_prefix_is Decides-eqb c.args.text.now c.args.given.now c.strip_prefix.result c.strip_prefix.ensures.cases)
