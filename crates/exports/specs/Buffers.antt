@@ -1,24 +1,28 @@
 -- The answers of the calls that fill a lent buffer, in numbers; and a part of a trace, copied. Assumes nothing.
-use Rattle.std.specs.Prelude.{ℕ, cond, List, ◌∷◌, ◌++◌, ◌≡◌, ltb, length, drop}
+use Rattle.std.specs.Prelude.{ℕ, false, cond, List, ◌∷◌, ◌++◌, ◌≡◌, ltb, length, drop, Result}
+use Rattle.std.specs.Result.{result_unwrap_or}
 use Rattle.signals.specs.Tables.{Row, ◌⇐◌, first_applying}
 use Rattle.signals.specs.Refusals.{refusal_of, accepts}
+use Rattle.signals.specs.declared.Refusal.{Refusal}
 use Rattle.mux.specs.Mux.{Trace, grounds, muxed}
 use Rattle.addressgen.specs.declared.Ran.{Ran}
-use Rattle.strbgen.specs.declared.Plan.{Plan}
-use Rattle.bench_text.specs.declared.Reported.{Reported}
+use Rattle.addressgen.specs.declared.State.{State}
 use Rattle.exports.specs.declared.buffers.AddressRun.{AddressRun}
 use Rattle.exports.specs.declared.buffers.Filled.{Filled}
 use Rattle.exports.specs.Numbers.{or_zero}
 
-abbrev pub run_numbers : Ran → AddressRun
-run_numbers ran =
-    record { refusal = or_zero (refusal_of ran.outcome); count = ran.count; state = ran.state; done = ran.done }
+-- how many entries were written; refused, none
+abbrev pub filled_numbers : Result ℕ Refusal → Filled
+filled_numbers answer = record { refusal = or_zero (refusal_of answer); count = result_unwrap_or answer 0 }
 
-abbrev pub plan_numbers : Plan → Filled
-plan_numbers plan = record { refusal = or_zero (refusal_of plan.outcome); count = plan.words }
+-- a refused run makes no iteration, leaves the state as it was given, and is not done
+abbrev pub refused_run : (given : State) → Ran
+refused_run given = record { count = 0; state = given; done = false }
 
-abbrev pub report_numbers : Reported → Filled
-report_numbers reported = record { refusal = or_zero (refusal_of reported.outcome); count = reported.count }
+abbrev pub run_numbers : (given : State) → Result Ran Refusal → AddressRun
+run_numbers given answer =
+    let ran : Ran = result_unwrap_or answer (refused_run given) in
+    record { refusal = or_zero (refusal_of answer); count = ran.count; state = ran.state; done = ran.done }
 
 -- the grounds for refusing a part that is to be copied, in the order in which they are tried: fewer than `count` bytes of room, then the
 -- mux's own

@@ -1,18 +1,33 @@
 -- The answers of a FIFO's calls in numbers. Assumes nothing.
+use Rattle.std.specs.Prelude.{false, ◌≡◌, Result}
+use Rattle.std.specs.Result.{result_unwrap_or}
+use Rattle.signals.specs.declared.Refusal.{Refusal}
+use Rattle.signals.specs.declared.Stepped.{Stepped}
+use Rattle.signals.specs.Payloads.{zeros}
 use Rattle.signals.specs.Refusals.{refusal_of}
-use Rattle.fifo.specs.declared.NewFifo.{NewFifo}
-use Rattle.fifo.specs.declared.Stepped.{Stepped}
+use Rattle.signals.specs.Tables.{first_applying}
+use Rattle.fifo.specs.declared.Fifo.{Fifo}
+use Rattle.fifo.specs.declared.Place.{Place}
+use Rattle.fifo.specs.Queue.{well, new_grounds, new_queue}
+use Rattle.fifo.specs.Promises.{value}
 use Rattle.exports.specs.declared.fifos.FifoNew.{FifoNew}
 use Rattle.exports.specs.declared.fifos.FifoStep.{FifoStep}
 use Rattle.exports.specs.Numbers.{or_zero}
 
-abbrev pub new_numbers : NewFifo → FifoNew
-new_numbers made = record { refusal = or_zero (refusal_of made.outcome); fifo = made.fifo }
+-- a new FIFO is empty, at its place; refused, it is the smallest
+pub record NewFifo (place : Place) (r : FifoNew) : Type 0 where
+  pub refusal : r.refusal ≡ or_zero (first_applying (new_grounds place))
+  pub gives : value r.fifo ≡ well (new_queue place)
 
-abbrev pub step_numbers : Stepped → FifoStep
-step_numbers s =
+-- a refused step shows nothing, and leaves what it was given
+abbrev pub unmoved : {S : Type 0} → (given : S) → Stepped S
+unmoved given = record { ready = false; valid = false; payload = zeros; next = given }
+
+abbrev pub step_numbers : (given : Fifo) → Result (Stepped Fifo) Refusal → FifoStep
+step_numbers given answer =
+    let s : Stepped Fifo = result_unwrap_or answer (unmoved given) in
     record {
-      refusal = or_zero (refusal_of s.outcome);
+      refusal = or_zero (refusal_of answer);
       ready = s.ready;
       valid = s.valid;
       payload = s.payload;

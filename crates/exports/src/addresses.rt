@@ -4,7 +4,8 @@ ghost use Rattle.address_at.specs.ByNumber.{address_of};
 ghost use Rattle.address_at.specs.AddressAt.{answer_of, answer_by};
 ghost use Rattle.address_at.specs.Overlap.{Lists};
 ghost use Rattle.exports.specs.Numbers.{InNumbers};
-ghost use Rattle.exports.specs.Addresses.{address_numbers, listed_numbers};
+ghost use Rattle.exports.specs.Addresses.{address_numbers};
+ghost use Rattle.exports.specs.Buffers.{filled_numbers};
 
 use crate::buffers::Filled;
 use addressgen::Settings;
@@ -22,22 +23,16 @@ pub extern "C" fn floealder_address_at(settings: Settings, i: u32) -> AddressAt
     ensures { InNumbers (λ w. answer_of w ≡ answer_by address_of settings i) address_numbers result }
 {
     let found = address_at::address_at(settings, i);
-    let outcome = found.outcome;
     AddressAt {
-        refusal: crate::refusal(outcome),
-        address: found.address,
+        refusal: crate::refusal(&found),
+        address: found.unwrap_or(0),
     }
 }
 
 // The iterations of the first generator that are listed.
 #[unsafe(no_mangle)]
 pub extern "C" fn floealder_overlap(first: Settings, second: Settings, out: &mut [u32]) -> Filled
-    ensures { InNumbers (λ w. Lists address_of first second out.old out.new w) listed_numbers result }
+    ensures { InNumbers (λ w. Lists address_of first second out.old out.new w) filled_numbers result }
 {
-    let listed = address_at::overlap(first, second, out);
-    let outcome = listed.outcome;
-    Filled {
-        refusal: crate::refusal(outcome),
-        count: listed.count,
-    }
+    Filled::from(address_at::overlap(first, second, out))
 }

@@ -1,14 +1,13 @@
 // The calls that fill a lent buffer.
-ghost use Rattle.std.specs.Prelude.{◌≡◌, ◌++◌, ◌≤◌, length, drop};
-ghost use Rattle.signals.specs.Refusals.{number_of};
+ghost use Rattle.std.specs.Prelude.{◌≡◌};
 ghost use Rattle.addressgen.specs.Stepping.{start};
 ghost use Rattle.addressgen.specs.Run.{Generated};
 ghost use Rattle.strbgen.specs.Plan.{Planned};
 ghost use Rattle.bench_text.specs.Report.{Reports};
 ghost use Rattle.exports.specs.Numbers.{InNumbers};
-ghost use Rattle.exports.specs.Buffers.{run_numbers, plan_numbers, report_numbers, HandedOn};
+ghost use Rattle.exports.specs.Buffers.{filled_numbers, run_numbers, HandedOn};
 
-use addressgen::{Settings, State};
+use addressgen::{Ran, Settings, State};
 use signals::Refusal;
 
 // How many entries were written.
@@ -19,6 +18,18 @@ pub struct Filled {
     pub count: usize,
 }
 
+// Refused, none were.
+impl From<Result<usize, Refusal>> for Filled {
+    ghost from_gives = { λ answer filled. filled ≡ filled_numbers answer };
+
+    fn from(answer: Result<usize, Refusal>) -> Filled {
+        Filled {
+            refusal: crate::refusal(&answer),
+            count: answer.unwrap_or(0),
+        }
+    }
+}
+
 // A run's iterations, the state after them, and whether that is the end.
 #[repr(C)]
 #[derive(Clone, Copy)]
@@ -27,18 +38,6 @@ pub struct AddressRun {
     pub count: usize,
     pub state: State,
     pub done: bool,
-}
-
-// Copies bytes to the start of a buffer that has room for them.
-fn copy(bytes: &[u8], out: &mut [u8])
-    requires { length bytes.now ≤ length out.old }
-    ensures { out.new ≡ bytes.now ++ drop (length bytes.now) out.old }
-{
-    let mut i = 0;
-    while i < bytes.len() {
-        out[i] = bytes[i];
-        i += 1;
-    }
 }
 
 // The length of the part. An exported function returns no reference, so the part is copied; one that does not fit is refused.
@@ -54,24 +53,14 @@ pub extern "C" fn floealder_mux_static<'a>(
     ensures { HandedOn t0.entry t1.entry select first count out.old out.new result }
 {
     if out.len() < count {
-        return refused(Refusal::OutputTooShort);
+        return Filled::from(Err(Refusal::OutputTooShort));
     }
     let part = mux::mux_static(t0, t1, select, first, count);
-    if part.len() == 0 {
-        return refused(Refusal::OutOfRange);
+    if part.is_empty() {
+        return Filled::from(Err(Refusal::OutOfRange));
     }
-    copy(part, out);
-    Filled { refusal: 0, count }
-}
-
-// A buffer that is left as it was.
-fn refused(why: Refusal) -> Filled
-    ensures { result ≡ record { refusal = number_of why; count = 0 } }
-{
-    Filled {
-        refusal: why.number(),
-        count: 0,
-    }
+    out[..part.len()].copy_from_slice(part);
+    Filled::from(Ok(count))
 }
 
 // The generator's state before its first iteration.
@@ -82,6 +71,7 @@ pub extern "C" fn floealder_addressgen_start() -> State
     State::start()
 }
 
+// Refused, the state is as it was given.
 #[unsafe(no_mangle)]
 pub extern "C" fn floealder_addressgen_run(
     settings: Settings,
@@ -89,15 +79,18 @@ pub extern "C" fn floealder_addressgen_run(
     n: usize,
     out: &mut [u32],
 ) -> AddressRun
-    ensures { InNumbers (λ w. Generated settings state n out.old out.new w) run_numbers result }
+    ensures { InNumbers (λ w. Generated settings state n out.old out.new w) (run_numbers state) result }
 {
-    let ran = addressgen::run(settings, state, n, out);
-    let outcome = ran.outcome;
-    let after = ran.state;
+    let answer = addressgen::run(settings, state, n, out);
+    let ran = answer.unwrap_or(Ran {
+        count: 0,
+        state,
+        done: false,
+    });
     AddressRun {
-        refusal: crate::refusal(outcome),
+        refusal: crate::refusal(&answer),
         count: ran.count,
-        state: after,
+        state: ran.state,
         done: ran.done,
     }
 }
@@ -105,25 +98,15 @@ pub extern "C" fn floealder_addressgen_run(
 // The words of the plan.
 #[unsafe(no_mangle)]
 pub extern "C" fn floealder_strobe_plan(address: u32, n: u32, out: &mut [u8]) -> Filled
-    ensures { InNumbers (λ w. Planned address n out.old out.new w) plan_numbers result }
+    ensures { InNumbers (λ w. Planned address n out.old out.new w) filled_numbers result }
 {
-    let plan = strbgen::strobe_plan(address, n, out);
-    let outcome = plan.outcome;
-    Filled {
-        refusal: crate::refusal(outcome),
-        count: plan.words,
-    }
+    Filled::from(strbgen::strobe_plan(address, n, out))
 }
 
 // The bytes of the report.
 #[unsafe(no_mangle)]
 pub extern "C" fn floealder_report(text: &[u8], out: &mut [u8]) -> Filled
-    ensures { InNumbers (λ w. Reports text.now out.old w out.new) report_numbers result }
+    ensures { InNumbers (λ w. Reports text.now out.old w out.new) filled_numbers result }
 {
-    let reported = bench_text::report(text, out);
-    let outcome = reported.outcome;
-    Filled {
-        refusal: crate::refusal(outcome),
-        count: reported.count,
-    }
+    Filled::from(bench_text::report(text, out))
 }

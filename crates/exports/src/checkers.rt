@@ -5,10 +5,10 @@ ghost use Rattle.mem_checker.specs.Rules.{mem, mem_decoupled};
 ghost use Rattle.mem_checker.specs.Verdicts.{check_mem};
 ghost use Rattle.stream_checker.specs.Written as writtenStream;
 ghost use Rattle.mem_checker.specs.Written as writtenMem;
-ghost use Rattle.signals.specs.Numbers.{rule_number};
+ghost use Rattle.exports.specs.Judged.{Found};
 ghost use Rattle.exports.specs.Verdicts.{stream_numbers, mem_numbers};
 
-use signals::{ALIGN, BROKEN, CLEAN, NONE};
+use signals::{BROKEN, Breach, CLEAN, NONE, Refusal};
 
 // A verdict on a stream's trace, with the handshakes and the clears. Rule and cycle are 0 unless it is broken.
 #[repr(C)]
@@ -34,79 +34,95 @@ pub struct MemVerdict {
     pub open: bool,
 }
 
-fn mem_rule(rule: mem_checker::Rule) -> u8
-    ensures { result ≡ rule_number (writtenMem.rule_name rule) }
-{
-    match rule {
-        mem_checker::Rule::Response => 2,
-        mem_checker::Rule::Direction => 4,
-        mem_checker::Rule::Align => ALIGN,
+// A verdict on a trace that is not refused.
+#[derive(Clone, Copy)]
+struct Judged {
+    verdict: u8,
+    rule: u8,
+    cycle: u32,
+}
+
+// Clean, or broken with the rule's number and the cycle.
+impl<R: Into<u8>> From<Option<Breach<R>>> for Judged {
+    ghost from_gives = { λ breach judged. Found R.converts breach judged };
+
+    fn from(breach: Option<Breach<R>>) -> Judged {
+        match breach {
+            None => Judged {
+                verdict: CLEAN,
+                rule: 0,
+                cycle: 0,
+            },
+            Some(Breach { rule, cycle }) => Judged {
+                verdict: BROKEN,
+                rule: rule.into(),
+                cycle,
+            },
+        }
     }
 }
 
-fn stream_numbers(checked: stream_checker::Checked) -> StreamVerdict
-    ensures { result ≡ stream_numbers (writtenStream.written checked) }
-{
-    let handshakes = checked.handshakes;
-    let clears = checked.clears;
-    let verdict = checked.verdict;
-    match verdict {
-        stream_checker::Verdict::Clean => StreamVerdict {
-            refusal: 0,
-            verdict: CLEAN,
-            rule: 0,
-            cycle: 0,
-            handshakes,
-            clears,
-        },
-        stream_checker::Verdict::Broken(rule, cycle) => StreamVerdict {
-            refusal: 0,
-            verdict: BROKEN,
-            rule: rule.number(),
-            cycle,
-            handshakes,
-            clears,
-        },
-        stream_checker::Verdict::Refused(why) => StreamVerdict {
-            refusal: why.number(),
-            verdict: NONE,
-            rule: 0,
-            cycle: 0,
-            handshakes,
-            clears,
-        },
+impl From<Result<stream_checker::Checked, Refusal>> for StreamVerdict {
+    ghost from_gives = { λ answer verdict. verdict ≡ stream_numbers (writtenStream.written answer) };
+
+    fn from(answer: Result<stream_checker::Checked, Refusal>) -> StreamVerdict {
+        match answer {
+            Ok(checked) => {
+                let Judged {
+                    verdict,
+                    rule,
+                    cycle,
+                } = Judged::from(checked.breach);
+                StreamVerdict {
+                    refusal: 0,
+                    verdict,
+                    rule,
+                    cycle,
+                    handshakes: checked.handshakes,
+                    clears: checked.clears,
+                }
+            }
+            Err(why) => StreamVerdict {
+                refusal: why.number(),
+                verdict: NONE,
+                rule: 0,
+                cycle: 0,
+                handshakes: 0,
+                clears: 0,
+            },
+        }
     }
 }
 
-fn mem_numbers(checked: mem_checker::Checked) -> MemVerdict
-    ensures { result ≡ mem_numbers (writtenMem.written checked) }
-{
-    let verdict = checked.verdict;
-    match verdict {
-        mem_checker::Verdict::Clean => MemVerdict {
-            refusal: 0,
-            verdict: CLEAN,
-            rule: 0,
-            cycle: 0,
-            handshakes: checked.handshakes,
-            open: checked.open,
-        },
-        mem_checker::Verdict::Broken(rule, cycle) => MemVerdict {
-            refusal: 0,
-            verdict: BROKEN,
-            rule: mem_rule(rule),
-            cycle,
-            handshakes: checked.handshakes,
-            open: checked.open,
-        },
-        mem_checker::Verdict::Refused(why) => MemVerdict {
-            refusal: why.number(),
-            verdict: NONE,
-            rule: 0,
-            cycle: 0,
-            handshakes: checked.handshakes,
-            open: checked.open,
-        },
+impl From<Result<mem_checker::Checked, Refusal>> for MemVerdict {
+    ghost from_gives = { λ answer verdict. verdict ≡ mem_numbers (writtenMem.written answer) };
+
+    fn from(answer: Result<mem_checker::Checked, Refusal>) -> MemVerdict {
+        match answer {
+            Ok(checked) => {
+                let Judged {
+                    verdict,
+                    rule,
+                    cycle,
+                } = Judged::from(checked.breach);
+                MemVerdict {
+                    refusal: 0,
+                    verdict,
+                    rule,
+                    cycle,
+                    handshakes: checked.handshakes,
+                    open: checked.open,
+                }
+            }
+            Err(why) => MemVerdict {
+                refusal: why.number(),
+                verdict: NONE,
+                rule: 0,
+                cycle: 0,
+                handshakes: 0,
+                open: false,
+            },
+        }
     }
 }
 
@@ -114,7 +130,7 @@ fn mem_numbers(checked: mem_checker::Checked) -> MemVerdict
 pub extern "C" fn floealder_check_stream(control: &[u8], data: &[u32], seq: bool) -> StreamVerdict
     ensures { result ≡ stream_numbers (check_stream control.now «data».now seq) }
 {
-    stream_numbers(stream_checker::check_stream(control, data, seq))
+    StreamVerdict::from(stream_checker::check_stream(control, data, seq))
 }
 
 #[unsafe(no_mangle)]
@@ -126,7 +142,7 @@ pub extern "C" fn floealder_check_mem(
 ) -> MemVerdict
     ensures { result ≡ mem_numbers (check_mem mem control.now add.now (length «data».now) (length r_data.now)) }
 {
-    mem_numbers(mem_checker::check_mem(control, add, data, r_data))
+    MemVerdict::from(mem_checker::check_mem(control, add, data, r_data))
 }
 
 #[unsafe(no_mangle)]
@@ -138,5 +154,5 @@ pub extern "C" fn floealder_check_mem_decoupled(
 ) -> MemVerdict
     ensures { result ≡ mem_numbers (check_mem mem_decoupled control.now add.now (length «data».now) (length r_data.now)) }
 {
-    mem_numbers(mem_checker::check_mem_decoupled(control, add, data, r_data))
+    MemVerdict::from(mem_checker::check_mem_decoupled(control, add, data, r_data))
 }

@@ -1,18 +1,16 @@
 // A FIFO, document 01's stage, and a chain of FIFOs, its line.
 ghost use Rattle.std.specs.Prelude.{◌≡◌};
 ghost use Rattle.fifo.specs.Queue.{is_well};
-ghost use Rattle.fifo.specs.Promises as ofFifo;
 ghost use Rattle.fifo.specs.Promises.{value, Steps};
-ghost use Rattle.chain.specs.Promises as ofChain;
 ghost use Rattle.chain.specs.Promises.{Promised, step_done, run_done, Times};
 ghost use Rattle.exports.specs.Numbers.{InNumbers};
-ghost use Rattle.exports.specs.Fifos.{new_numbers, step_numbers};
+ghost use Rattle.exports.specs.Fifos.{NewFifo, step_numbers};
 ghost use Rattle.exports.specs.Chains as chains;
-ghost use Rattle.exports.specs.Chains.{run_numbers, time_numbers};
+ghost use Rattle.exports.specs.Chains.{NewChain, run_numbers, time_numbers};
 
-use chain::{Chain, NewChain};
+use chain::Chain;
 use fifo::{Fifo, Place};
-use signals::Payload;
+use signals::{Cycle, Payload, ZEROS};
 
 #[repr(C)]
 #[derive(Clone, Copy)]
@@ -39,7 +37,7 @@ pub struct ChainNew {
     pub chain: Chain,
 }
 
-// What a step shows, and the chain after it.
+// What a step shows, and the chain after it. No struct for both: one that is handed to C has no type parameter.
 #[repr(C)]
 #[derive(Clone, Copy)]
 pub struct ChainStep {
@@ -68,17 +66,16 @@ pub struct ChainDeliveryTime {
 
 #[unsafe(no_mangle)]
 pub extern "C" fn floealder_fifo_new(place: Place) -> FifoNew
-    ensures { InNumbers (λ w. ofFifo.Made place w) new_numbers result }
+    ensures { NewFifo place result }
 {
     let made = Fifo::new(place);
-    let outcome = made.outcome;
-    let fifo = made.fifo;
     FifoNew {
-        refusal: crate::refusal(outcome),
-        fifo,
+        refusal: crate::refusal(&made),
+        fifo: made.unwrap_or(Fifo::smallest()),
     }
 }
 
+// A match: `unwrap_or` would copy the state once more, and a chain's step would take a quarter longer.
 #[unsafe(no_mangle)]
 pub extern "C" fn floealder_fifo_step(
     fifo: Fifo,
@@ -87,18 +84,30 @@ pub extern "C" fn floealder_fifo_step(
     sink: bool,
     clear: bool,
 ) -> FifoStep
-    ensures { InNumbers (λ w. Steps value fifo valid payload sink clear w) step_numbers result }
+    ensures { InNumbers (λ w. Steps value fifo valid payload sink clear w) (step_numbers fifo) result }
 {
-    let stepped = fifo.step(valid, payload, sink, clear);
-    let outcome = stepped.outcome;
-    let shown = stepped.payload;
-    let next = stepped.next;
-    FifoStep {
-        refusal: crate::refusal(outcome),
-        ready: stepped.ready,
-        valid: stepped.valid,
-        payload: shown,
-        next,
+    let answer = fifo.step(Cycle {
+        valid,
+        payload,
+        sink,
+        clear,
+    });
+    let refusal = crate::refusal(&answer);
+    match answer {
+        Ok(shown) => FifoStep {
+            refusal,
+            ready: shown.ready,
+            valid: shown.valid,
+            payload: shown.payload,
+            next: shown.next,
+        },
+        Err(_) => FifoStep {
+            refusal,
+            ready: false,
+            valid: false,
+            payload: ZEROS,
+            next: fifo,
+        },
     }
 }
 
@@ -109,24 +118,15 @@ pub extern "C" fn floealder_fifo_is_well(fifo: Fifo) -> bool
     fifo.is_well()
 }
 
-// A new chain in numbers.
-fn new_numbers(made: NewChain) -> ChainNew
-    ensures { result ≡ chains.new_numbers made }
-{
-    let outcome = made.outcome;
-    let chain = made.chain;
-    ChainNew {
-        refusal: crate::refusal(outcome),
-        chain,
-    }
-}
-
 #[unsafe(no_mangle)]
 pub extern "C" fn floealder_chain_new(places: &[Place]) -> ChainNew
-    ensures { InNumbers (λ w. ofChain.Made places.now w) chains.new_numbers result }
+    ensures { NewChain places.now result }
 {
     let made = Chain::new(places);
-    new_numbers(made)
+    ChainNew {
+        refusal: crate::refusal(&made),
+        chain: made.unwrap_or(Chain::shortest()),
+    }
 }
 
 #[unsafe(no_mangle)]
@@ -137,18 +137,30 @@ pub extern "C" fn floealder_chain_step(
     sink: bool,
     clear: bool,
 ) -> ChainStep
-    ensures { InNumbers (λ w. Promised chain (step_done valid payload sink clear w)) chains.step_numbers result }
+    ensures { InNumbers (λ w. Promised chain (step_done chain (record { valid = valid; payload = payload; sink = sink; clear = clear }) w)) (chains.step_numbers chain) result }
 {
-    let stepped = chain.step(valid, payload, sink, clear);
-    let outcome = stepped.outcome;
-    let shown = stepped.payload;
-    let next = stepped.next;
-    ChainStep {
-        refusal: crate::refusal(outcome),
-        ready: stepped.ready,
-        valid: stepped.valid,
-        payload: shown,
-        next,
+    let answer = chain.step(Cycle {
+        valid,
+        payload,
+        sink,
+        clear,
+    });
+    let refusal = crate::refusal(&answer);
+    match answer {
+        Ok(shown) => ChainStep {
+            refusal,
+            ready: shown.ready,
+            valid: shown.valid,
+            payload: shown.payload,
+            next: shown.next,
+        },
+        Err(_) => ChainStep {
+            refusal,
+            ready: false,
+            valid: false,
+            payload: ZEROS,
+            next: chain,
+        },
     }
 }
 
@@ -161,14 +173,12 @@ pub extern "C" fn floealder_chain_run(
     out_control: &mut [u8],
     out_data: &mut [u32],
 ) -> ChainRun
-    ensures { InNumbers (λ w. Promised chain (run_done control.now «data».now sink.now out_control.old out_data.old w out_control.new out_data.new)) run_numbers result }
+    ensures { InNumbers (λ w. Promised chain (run_done chain control.now «data».now sink.now out_control.old out_data.old w out_control.new out_data.new)) (run_numbers chain) result }
 {
     let ran = chain.run(control, data, sink, out_control, out_data);
-    let outcome = ran.outcome;
-    let next = ran.next;
     ChainRun {
-        refusal: crate::refusal(outcome),
-        next,
+        refusal: crate::refusal(&ran),
+        next: ran.unwrap_or(chain),
     }
 }
 
@@ -177,9 +187,8 @@ pub extern "C" fn floealder_chain_delivery_time(chain: Chain, i: usize) -> Chain
     ensures { InNumbers (λ w. Times chain i w) time_numbers result }
 {
     let time = chain.delivery_time(i);
-    let outcome = time.outcome;
     ChainDeliveryTime {
-        refusal: crate::refusal(outcome),
-        cycles: time.cycles,
+        refusal: crate::refusal(&time),
+        cycles: time.unwrap_or(0),
     }
 }

@@ -17,14 +17,14 @@ ghost use Rattle.std.specs.Prelude.{◌≡◌};
 ghost use Rattle.signals.specs.Refusals.{refusal_of};
 ghost use Rattle.exports.specs.Numbers.{or_zero};
 
-use signals::Outcome;
+use signals::Refusal;
 
 // The number of a refusal, or 0 where there is none.
-fn refusal(outcome: Outcome) -> u8
-    ensures { result ≡ or_zero (refusal_of outcome) }
+fn refusal<T>(answer: &Result<T, Refusal>) -> u8
+    ensures { result ≡ or_zero (refusal_of answer.now) }
 {
-    match outcome {
-        Outcome::Accepted => 0,
-        Outcome::Refused(why) => why.number(),
+    match answer {
+        Ok(_) => 0,
+        Err(why) => why.number(),
     }
 }

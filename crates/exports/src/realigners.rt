@@ -2,7 +2,7 @@
 ghost use Rattle.realign.specs.Sink.{Sinks};
 ghost use Rattle.realign.specs.Source.{Sources};
 ghost use Rattle.exports.specs.Numbers.{InNumbers};
-ghost use Rattle.exports.specs.Realigners.{realigned_numbers};
+ghost use Rattle.exports.specs.Buffers.{filled_numbers};
 
 use crate::buffers::Filled;
 
@@ -15,14 +15,9 @@ pub extern "C" fn floealder_realign_source(
     strobes: &[u8],
     out: &mut [u32],
 ) -> Filled
-    ensures { InNumbers (λ w. Sources address n words.now strobes.now out.old out.new w) realigned_numbers result }
+    ensures { InNumbers (λ w. Sources address n words.now strobes.now out.old out.new w) filled_numbers result }
 {
-    let made = realign::realign_source(address, n, words, strobes, out);
-    let outcome = made.outcome;
-    Filled {
-        refusal: crate::refusal(outcome),
-        count: made.count,
-    }
+    Filled::from(realign::realign_source(address, n, words, strobes, out))
 }
 
 // The words and strobes of the plan for some packets.
@@ -33,12 +28,7 @@ pub extern "C" fn floealder_realign_sink(
     out_words: &mut [u32],
     out_strobes: &mut [u8],
 ) -> Filled
-    ensures { InNumbers (λ w. Sinks address packets.now out_words.old out_words.new out_strobes.old out_strobes.new w) realigned_numbers result }
+    ensures { InNumbers (λ w. Sinks address packets.now out_words.old out_words.new out_strobes.old out_strobes.new w) filled_numbers result }
 {
-    let made = realign::realign_sink(address, packets, out_words, out_strobes);
-    let outcome = made.outcome;
-    Filled {
-        refusal: crate::refusal(outcome),
-        count: made.count,
-    }
+    Filled::from(realign::realign_sink(address, packets, out_words, out_strobes))
 }

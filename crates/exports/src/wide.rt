@@ -4,7 +4,8 @@ ghost use Rattle.lanes.specs.Merge as ofMerge;
 ghost use Rattle.lanes.specs.Split as ofSplit;
 ghost use Rattle.exports.specs.Lanes.{merge_numbers, split_numbers};
 
-use lanes::{MAX_LANES, Offer, Wide};
+use lanes::{MAX_LANES, MergeCycle, Offer, SplitCycle, Wide};
+use signals::ZEROS;
 
 // What each input offers.
 #[repr(C)]
@@ -39,18 +40,37 @@ pub struct SplitStep {
     pub branches: [Offer; MAX_LANES],
 }
 
+// Refused, each output is 0.
+const NO_MERGE: MergeCycle = MergeCycle {
+    valid: false,
+    wide: Wide {
+        data: [0; MAX_LANES],
+        strb: 0,
+    },
+    readies: [false; MAX_LANES],
+};
+
+const NO_SPLIT: SplitCycle = SplitCycle {
+    ready: false,
+    branches: [Offer {
+        valid: false,
+        payload: ZEROS,
+    }; MAX_LANES],
+};
+
 #[unsafe(no_mangle)]
 pub extern "C" fn floealder_merge(lanes: u8, inputs: Inputs, ready: bool) -> MergeStep
     ensures { result ≡ merge_numbers (ofMerge.answer lanes inputs.each ready) }
 {
-    let each = inputs.each;
-    let merged = lanes::merge(lanes, each, ready);
-    let outcome = merged.outcome;
-    let wide = merged.wide;
-    let readies = merged.readies;
+    let answer = lanes::merge(lanes, inputs.each, ready);
+    let MergeCycle {
+        valid,
+        wide,
+        readies,
+    } = answer.unwrap_or(NO_MERGE);
     MergeStep {
-        refusal: crate::refusal(outcome),
-        valid: merged.valid,
+        refusal: crate::refusal(&answer),
+        valid,
         wide,
         readies,
     }
@@ -60,13 +80,11 @@ pub extern "C" fn floealder_merge(lanes: u8, inputs: Inputs, ready: bool) -> Mer
 pub extern "C" fn floealder_split(lanes: u8, valid: bool, wide: Wide, readies: Readies) -> SplitStep
     ensures { result ≡ split_numbers (ofSplit.answer lanes valid wide readies.each) }
 {
-    let each = readies.each;
-    let split = lanes::split(lanes, valid, wide, each);
-    let outcome = split.outcome;
-    let branches = split.branches;
+    let answer = lanes::split(lanes, valid, wide, readies.each);
+    let SplitCycle { ready, branches } = answer.unwrap_or(NO_SPLIT);
     SplitStep {
-        refusal: crate::refusal(outcome),
-        ready: split.ready,
+        refusal: crate::refusal(&answer),
+        ready,
         branches,
     }
 }

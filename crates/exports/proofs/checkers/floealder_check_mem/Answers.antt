@@ -1,7 +1,0 @@
--- `floealder_check_mem` meets its contract: it gives what `check_mem` ensures, in numbers. Assumes nothing.
-use mathlib.Core.Path.{ap, ◌∙◌}
-use Rattle.exports.specs.Verdicts.{mem_numbers}
-use Rattle.exports.proofs.checkers.floealder_check_mem.Goals as goal
-
-pub returns : goal.returns
-returns c = c.mem_numbers.ensures ∙ ap mem_numbers c.check_mem.ensures
