@@ -4,15 +4,14 @@
 #![tactic(auto)]
 
 use bench_text::{MAX_REPORT, MAX_TEXT, report};
-use stdio::{Input, read_input, write_report};
+use stdio::{read_input, write_report};
 
 fn main(rt: HostRuntime) {
     let mut text = [0u8; MAX_TEXT];
-    let Input::Read(size) = read_input(&rt, &mut text, b"bench: standard input") else {
+    let Some(size) = read_input(&rt, &mut text, b"bench: standard input") else {
         return;
     };
     let mut out = [0u8; MAX_REPORT];
-    let made = report(&text[..size], &mut out);
-    let count = made.count;
-    write_report(&rt, &out[..count], b"bench: standard output");
+    let count = report(&text[..size], &mut out).unwrap_or(0);
+    let _ = write_report(&rt, &out[..count], b"bench: standard output");
 }

@@ -4,174 +4,156 @@
 #![tactic(auto)]
 
 use fifo::{Fifo, Place};
-use signals::{Outcome, Payload};
-use std::io;
+use signals::{Cycle, Payload, Refusal, Stepped, ZEROS};
+use std::{fmt, io};
 
-// The paper's number of an outcome.
-fn number(outcome: Outcome) -> u8 {
-    match outcome {
-        Outcome::Accepted => 0,
-        Outcome::Refused(why) => why.number(),
+// A place as it is printed: its kind only where it is early-stall.
+#[derive(Drop)]
+struct Shown(Place);
+
+impl fmt::Display for Shown {
+    fn fmt<W: fmt::Write>(&self, f: &mut fmt::Formatter<W>) -> fmt::Result {
+        if self.0.early_stall {
+            write!(f, " early-stall")?;
+        }
+        write!(f, " depth={}", self.0.depth)
     }
 }
 
-fn field(rt: &impl Print, name: &str, n: u64) -> io::Result<()> {
-    print!(rt; "{name}{n}")
-}
-
-fn flag(rt: &impl Print, name: &str, b: bool) -> io::Result<()> {
-    field(rt, name, u64::from(b))
-}
-
-fn payload_fields(rt: &impl Print, p: Payload) -> io::Result<()> {
-    field(rt, " data=", u64::from(p.data))?;
-    field(rt, " strb=", u64::from(p.strb))
-}
-
-// The kind is printed only where it is early-stall.
-fn place_fields(rt: &impl Print, place: Place) -> io::Result<()> {
-    if place.early_stall {
-        print!(rt; " early-stall")?;
-    }
-    field(rt, " depth=", place.depth as u64)
+// Document 01's number of a refusal, or 0 where nothing is refused.
+fn number<T: Drop>(answer: Result<T, Refusal>) -> u8 {
+    answer.err().map_or(0, Refusal::number)
 }
 
 // A new FIFO.
-fn new(rt: &impl Print, early_stall: bool, depth: usize) -> io::Result<Fifo> {
-    let place = Place {
-        depth: depth,
-        early_stall: early_stall,
-    };
-    let r = Fifo::new(place);
-    let outcome = r.outcome;
-    let made = r.fifo;
-    print!(rt; "new")?;
-    place_fields(rt, place)?;
-    field(rt, " | refusal=", u64::from(number(outcome)))?;
-    place_fields(rt, made.place)?;
-    field(rt, " held=", made.count as u64)?;
-    println!(rt; "")?;
+fn new(rt: &impl Print, depth: usize, early_stall: bool) -> io::Result<Fifo> {
+    let place = Place { depth, early_stall };
+    let answer = Fifo::new(place);
+    let made = answer.unwrap_or(Fifo::smallest());
+    println!(rt;
+        "new{} | refusal={}{} held={}",
+        Shown(place),
+        number(answer),
+        Shown(made.place),
+        made.count
+    )?;
     Ok(made)
 }
 
-// One cycle.
-fn step(
-    rt: &impl Print,
-    f: Fifo,
-    valid: bool,
-    payload: Payload,
-    sink: bool,
-    clear: bool,
-) -> io::Result<Fifo> {
-    let r = f.step(valid, payload, sink, clear);
-    flag(rt, "valid=", valid)?;
-    payload_fields(rt, payload)?;
-    flag(rt, " sink=", sink)?;
-    flag(rt, " clear=", clear)?;
-    let outcome = r.outcome;
-    field(rt, " | refusal=", u64::from(number(outcome)))?;
-    flag(rt, " ready=", r.ready)?;
-    flag(rt, " valid=", r.valid)?;
-    payload_fields(rt, r.payload)?;
-    let next = r.next;
-    field(rt, " held=", next.count as u64)?;
-    println!(rt; "")?;
-    Ok(next)
+// One cycle. A refused FIFO shows nothing, and stays as it was.
+fn step(rt: &impl Print, f: Fifo, given: Cycle) -> io::Result<Fifo> {
+    let answer = f.step(given);
+    let shown = answer.unwrap_or(Stepped {
+        ready: false,
+        valid: false,
+        payload: ZEROS,
+        next: f,
+    });
+    let Payload { data, strb } = given.payload;
+    print!(rt; "valid={} data={data} strb={strb} ", u8::from(given.valid))?;
+    print!(rt;
+        "sink={} clear={} | ",
+        u8::from(given.sink),
+        u8::from(given.clear)
+    )?;
+    let Payload { data, strb } = shown.payload;
+    print!(rt;
+        "refusal={} ready={} ",
+        number(answer),
+        u8::from(shown.ready)
+    )?;
+    println!(rt;
+        "valid={} data={data} strb={strb} held={}",
+        u8::from(shown.valid),
+        shown.next.count
+    )?;
+    Ok(shown.next)
 }
 
 // A cycle that offers a word with all strobes set.
 fn offer(rt: &impl Print, f: Fifo, word: u32, sink: bool) -> io::Result<Fifo> {
-    step(
-        rt,
-        f,
-        true,
-        Payload {
-            data: word,
-            strb: 15,
-        },
+    let payload = Payload {
+        data: word,
+        strb: 15,
+    };
+    let given = Cycle {
+        valid: true,
+        payload,
         sink,
-        false,
-    )
+        clear: false,
+    };
+    step(rt, f, given)
 }
 
-// A cycle that offers nothing, the sink ready.
-fn drain(rt: &impl Print, f: Fifo) -> io::Result<Fifo> {
-    step(rt, f, false, Payload { data: 0, strb: 0 }, true, false)
+// So many cycles that offer nothing, the sink ready.
+fn drained(rt: &impl Print, f: Fifo, cycles: usize) -> io::Result<Fifo> {
+    let nothing = Cycle {
+        valid: false,
+        payload: ZEROS,
+        sink: true,
+        clear: false,
+    };
+    let mut f = f;
+    for _ in 0..cycles {
+        f = step(rt, f, nothing)?;
+    }
+    Ok(f)
 }
 
 // Four are offered, of which four fit into a plain FIFO and three into an early-stall one. What comes next waits, also in the cycle in
 // which the full FIFO pops.
 fn filled(rt: &impl Print, empty: Fifo) -> io::Result<Fifo> {
-    let f = offer(rt, empty, 11, false)?;
-    let f = offer(rt, f, 12, false)?;
-    let f = offer(rt, f, 13, false)?;
-    let f = offer(rt, f, 14, false)?;
-    let f = offer(rt, f, 15, false)?;
+    let mut f = empty;
+    for word in 11..=15 {
+        f = offer(rt, f, word, false)?;
+    }
     offer(rt, f, 15, true)
-}
-
-// Until nothing is shown.
-fn drained(rt: &impl Print, f: Fifo) -> io::Result<Fifo> {
-    let f = drain(rt, f)?;
-    let f = drain(rt, f)?;
-    let f = drain(rt, f)?;
-    drain(rt, f)
 }
 
 // Seven payloads pass through a ring of four.
 fn wrapped(rt: &impl Print, f: Fifo) -> io::Result<Fifo> {
-    let f = offer(rt, f, 21, false)?;
-    let f = offer(rt, f, 22, false)?;
-    let f = offer(rt, f, 23, true)?;
-    let f = offer(rt, f, 24, true)?;
-    let f = offer(rt, f, 25, true)?;
-    let f = offer(rt, f, 26, false)?;
-    let f = offer(rt, f, 27, false)?;
-    let f = drain(rt, f)?;
-    drained(rt, f)
+    let mut f = f;
+    for word in 21..=27 {
+        f = offer(rt, f, word, (23..=25).contains(&word))?;
+    }
+    drained(rt, f, 5)
 }
 
 // A clear, and the two refusals.
 fn refused(rt: &impl Print, f: Fifo) -> io::Result<()> {
     let f = offer(rt, f, 31, false)?;
     let f = offer(rt, f, 32, false)?;
-    let f = step(rt, f, true, Payload { data: 33, strb: 16 }, true, true)?;
-    let f = step(rt, f, true, Payload { data: 33, strb: 15 }, true, true)?;
+    let mut given = Cycle {
+        valid: true,
+        payload: Payload { data: 33, strb: 16 },
+        sink: true,
+        clear: true,
+    };
+    let f = step(rt, f, given)?;
+    given.payload.strb = 15;
+    let f = step(rt, f, given)?;
     let mut broken = offer(rt, f, 34, false)?;
     broken.count = 5;
-    step(
-        rt,
-        broken,
-        true,
-        Payload { data: 35, strb: 16 },
-        true,
-        false,
-    )?;
+    given.payload = Payload { data: 35, strb: 16 };
+    given.clear = false;
+    step(rt, broken, given)?;
     Ok(())
 }
 
 fn main(rt: HostRuntime) -> io::Result<()> {
-    new(&rt, false, 2)?;
-    new(&rt, false, 16)?;
-    new(&rt, false, 18)?;
-    new(&rt, false, 64)?;
-    new(&rt, false, 0)?;
-    new(&rt, false, 3)?;
-    new(&rt, false, 17)?;
-    new(&rt, false, 65)?;
-    new(&rt, false, 66)?;
-    new(&rt, true, 4)?;
-    new(&rt, true, 64)?;
-    new(&rt, true, 2)?;
-    new(&rt, true, 5)?;
-    new(&rt, true, 66)?;
-    let f = new(&rt, false, 4)?;
+    for depth in [2, 16, 18, 64, 0, 3, 17, 65, 66] {
+        new(&rt, depth, false)?;
+    }
+    for depth in [4, 64, 2, 5, 66] {
+        new(&rt, depth, true)?;
+    }
+    let f = new(&rt, 4, false)?;
     let f = filled(&rt, f)?;
-    let f = drained(&rt, f)?;
+    let f = drained(&rt, f, 4)?;
     let f = wrapped(&rt, f)?;
     refused(&rt, f)?;
-    let f = new(&rt, true, 4)?;
+    let f = new(&rt, 4, true)?;
     let f = filled(&rt, f)?;
-    drained(&rt, f)?;
+    drained(&rt, f, 4)?;
     Ok(())
 }

@@ -1,47 +1,68 @@
 // Merges and splits of wide streams.
-use crate::{print_case, print_outcome};
-use lanes::{MAX_LANES, Offer, Wide};
-use signals::Payload;
-use std::io;
+use crate::print_end;
+use lanes::{MAX_LANES, MergeCycle, Offer, SplitCycle, Wide};
+use signals::{Payload, ZEROS};
+use std::{fmt, io};
 
-fn print_bit(rt: &impl Print, name: &str, bit: bool) -> io::Result<()> {
-    print_case(rt, name, usize::from(bit))
+// What is printed where a merge is refused: the zeros that C is given. `lanes` has no use for them, since its refusal shows nothing.
+const NO_MERGE: MergeCycle = MergeCycle {
+    valid: false,
+    wide: Wide {
+        data: [0; MAX_LANES],
+        strb: 0,
+    },
+    readies: [false; MAX_LANES],
+};
+
+// What is printed where a split is refused.
+const NO_SPLIT: SplitCycle = SplitCycle {
+    ready: false,
+    branches: [Offer {
+        valid: false,
+        payload: ZEROS,
+    }; MAX_LANES],
+};
+
+// A wide word as it is printed.
+#[derive(Drop)]
+struct Words(Wide);
+
+impl fmt::Display for Words {
+    fn fmt<W: fmt::Write>(&self, f: &mut fmt::Formatter<W>) -> fmt::Result {
+        write!(f, ", words")?;
+        for word in &self.0.data {
+            write!(f, " {word}")?;
+        }
+        write!(f, ", strb {}", self.0.strb)
+    }
 }
 
-fn print_words(rt: &impl Print, words: [u32; MAX_LANES]) -> io::Result<()> {
-    print_case(rt, ", words ", words[0] as usize)?;
-    print_case(rt, " ", words[1] as usize)?;
-    print_case(rt, " ", words[2] as usize)?;
-    print_case(rt, " ", words[3] as usize)
+// Readies as they are printed.
+#[derive(Drop)]
+struct Readies([bool; MAX_LANES]);
+
+impl fmt::Display for Readies {
+    fn fmt<W: fmt::Write>(&self, f: &mut fmt::Formatter<W>) -> fmt::Result {
+        write!(f, ", readies")?;
+        for ready in &self.0 {
+            write!(f, " {}", u8::from(*ready))?;
+        }
+        Ok(())
+    }
 }
 
-fn print_readies(rt: &impl Print, readies: [bool; MAX_LANES]) -> io::Result<()> {
-    print_bit(rt, ", readies ", readies[0])?;
-    print_bit(rt, " ", readies[1])?;
-    print_bit(rt, " ", readies[2])?;
-    print_bit(rt, " ", readies[3])
-}
+// Offers as they are printed: of each its valid, its word and its strobes.
+#[derive(Drop)]
+struct Offers([Offer; MAX_LANES]);
 
-// Valid, word and strb.
-fn print_offer(rt: &impl Print, offer: Offer) -> io::Result<()> {
-    print_bit(rt, " ", offer.valid)?;
-    let payload = offer.payload;
-    print_case(rt, ":", payload.data as usize)?;
-    print_case(rt, ":", payload.strb as usize)
-}
-
-fn print_offers(rt: &impl Print, name: &str, offers: [Offer; MAX_LANES]) -> io::Result<()> {
-    print!(rt; "{name}")?;
-    print_offer(rt, offers[0])?;
-    print_offer(rt, offers[1])?;
-    print_offer(rt, offers[2])?;
-    print_offer(rt, offers[3])
-}
-
-fn print_wide(rt: &impl Print, wide: Wide) -> io::Result<()> {
-    let words = wide.data;
-    print_words(rt, words)?;
-    print_case(rt, ", strb ", wide.strb as usize)
+impl fmt::Display for Offers {
+    fn fmt<W: fmt::Write>(&self, f: &mut fmt::Formatter<W>) -> fmt::Result {
+        for offer in &self.0 {
+            let Payload { data, strb } = offer.payload;
+            write!(f, " {}:{data}:{strb}", u8::from(offer.valid))?;
+        }
+        Ok(())
+    }
 }
 
 // Merges one cycle.
@@ -51,18 +72,20 @@ fn run_merge(
     inputs: [Offer; MAX_LANES],
     ready: bool,
 ) -> io::Result<()> {
-    print_case(rt, "merge of ", lanes as usize)?;
-    print_offers(rt, ", inputs", inputs)?;
-    print_bit(rt, ", ready ", ready)?;
+    print!(rt;
+        "merge of {lanes}, inputs{}, ready {}",
+        Offers(inputs),
+        u8::from(ready)
+    )?;
     let merged = lanes::merge(lanes, inputs, ready);
-    let outcome = merged.outcome;
-    let wide = merged.wide;
-    let readies = merged.readies;
-    print_outcome(rt, outcome)?;
-    print_bit(rt, "  valid ", merged.valid)?;
-    print_wide(rt, wide)?;
-    print_readies(rt, readies)?;
-    println!(rt; "")
+    print_end(rt, merged)?;
+    let shown = merged.unwrap_or(NO_MERGE);
+    println!(rt;
+        "  valid {}{}{}",
+        u8::from(shown.valid),
+        Words(shown.wide),
+        Readies(shown.readies)
+    )
 }
 
 // Splits one cycle.
@@ -73,26 +96,26 @@ fn run_split(
     wide: Wide,
     readies: [bool; MAX_LANES],
 ) -> io::Result<()> {
-    print_case(rt, "split of ", lanes as usize)?;
-    print_bit(rt, ", valid ", valid)?;
-    print_wide(rt, wide)?;
-    print_readies(rt, readies)?;
+    print!(rt;
+        "split of {lanes}, valid {}{}{}",
+        u8::from(valid),
+        Words(wide),
+        Readies(readies)
+    )?;
     let split = lanes::split(lanes, valid, wide, readies);
-    let outcome = split.outcome;
-    let branches = split.branches;
-    print_outcome(rt, outcome)?;
-    print_bit(rt, "  ready ", split.ready)?;
-    print_offers(rt, ", branches", branches)?;
-    println!(rt; "")
+    print_end(rt, split)?;
+    let shown = split.unwrap_or(NO_SPLIT);
+    println!(rt;
+        "  ready {}, branches{}",
+        u8::from(shown.ready),
+        Offers(shown.branches)
+    )
 }
 
 fn offer(valid: bool, data: u32, strb: u8) -> Offer {
     Offer {
-        valid: valid,
-        payload: Payload {
-            data: data,
-            strb: strb,
-        },
+        valid,
+        payload: Payload { data, strb },
     }
 }
 
@@ -102,31 +125,15 @@ pub(crate) fn run_merges(rt: &impl Print) -> io::Result<()> {
     let two = [offer(true, 7, 15), offer(true, 8, 3), past, past];
     run_merge(rt, 2, two, true)?;
     run_merge(rt, 2, two, false)?;
-    run_merge(
-        rt,
-        2,
-        [offer(true, 7, 15), offer(false, 8, 3), past, past],
-        true,
-    )?;
-    run_merge(
-        rt,
-        4,
-        [
-            offer(true, 7, 15),
-            offer(true, 8, 3),
-            offer(true, 9, 0),
-            offer(true, 10, 8),
-        ],
-        true,
-    )?;
+    let mut one = two;
+    one[1].valid = false;
+    run_merge(rt, 2, one, true)?;
+    let four = [two[0], two[1], offer(true, 9, 0), offer(true, 10, 8)];
+    run_merge(rt, 4, four, true)?;
     run_merge(rt, 3, two, true)?;
     run_merge(rt, 4, two, true)?;
-    run_merge(
-        rt,
-        2,
-        [offer(true, 7, 15), offer(false, 8, 16), past, past],
-        true,
-    )
+    one[1].payload.strb = 16;
+    run_merge(rt, 2, one, true)
 }
 
 // What the merges gave; with a branch that is not ready, and a source that is not valid; and what is refused.

@@ -13,29 +13,21 @@ use std::rt::Clock;
 use std::time::Duration;
 use std::{fmt, io, str, thread};
 
-// So many bytes were read, up to the end of the input or of the buffer; or reading failed.
-#[derive(Clone, Copy)]
-pub enum Input {
-    Read(usize),
-    Failed,
-}
-
-// Everything was written; or writing failed after so many bytes.
-#[derive(Clone, Copy)]
-pub enum Output {
-    Whole,
-    Part(usize),
+// So many bytes were written, fewer than the report has; then writing failed.
+#[derive(Clone, Copy, Debug, PartialEq, Eq)]
+pub struct Unwritten {
+    pub written: usize,
 }
 
 // One call moved so many bytes, none where it is to be made again; it found the end; or it failed.
-#[derive(Clone, Copy)]
+#[derive(Clone, Copy, Debug, PartialEq, Eq)]
 enum Call {
     Moved(usize),
     Ended,
     Failed,
 }
 
-// A proved loop has to end, and nothing says that an input does. So calls are counted, down from a number that no run uses up.
+// A proved loop has to end, and nothing says that an input does. So no more calls are made than a number that no run uses up.
 const CALLS: u64 = u64::MAX;
 
 // Room for an error's text, which is shorter.
@@ -55,139 +47,142 @@ impl fmt::Display for Text<'_> {
     }
 }
 
-// A line on standard error: what failed, and why. Where that fails too, nobody is left to be told.
-fn say(rt: &impl Eprint, what: &[u8], why: &str) {
-    let _ = eprintln!(rt; "{}: {why}", Text(what));
-}
-
 // The system's words for an error, without the number that std puts after them.
 fn words(text: &str) -> &str {
-    match text.split_once(" (os error ") {
-        Some((words, _)) => words,
-        None => text,
+    text.split_once(" (os error ")
+        .map_or(text, |(words, _)| words)
+}
+
+// A stream of the program: the runtime that moves its bytes, and its name for a line on standard error.
+#[derive(Drop)]
+struct Stream<'a, R> {
+    rt: &'a R,
+    what: &'a [u8],
+}
+
+impl<R: Eprint + Clock> Stream<'_, R> {
+    // A line on standard error: what failed, and why. Where that fails too, nobody is left to be told.
+    fn say(&self, why: &str) {
+        let _ = eprintln!(self.rt; "{}: {why}", Text(self.what));
     }
-}
 
-// The line for an error.
-fn fail(rt: &impl Eprint, what: &[u8], error: io::Error) {
-    let mut text = Cursor::new([0u8; MAX_TEXT]);
-    let _ = write!(text, "{error}");
-    let count = (text.position() as usize).min(MAX_TEXT);
-    let bytes = text.into_inner();
-    say(
-        rt,
-        what,
-        words(str::from_utf8(&bytes[..count]).unwrap_or("")),
-    );
-}
-
-// The line for an output that takes no byte and gives no error.
-fn takes_nothing(rt: &impl Eprint, what: &[u8]) {
-    say(rt, what, "takes nothing");
-}
-
-// A thousandth of a second: short for whoever waits, and long enough to leave the processor to others.
-fn pause(rt: &impl Clock) {
-    thread::sleep(rt, Duration::from_millis(1));
-}
-
-// Whether the call that failed is to be made again: at once where a signal interrupted it, after a pause where it came too early.
-fn is_repeated(rt: &impl Clock, error: io::Error) -> bool {
-    match error.kind() {
-        ErrorKind::Interrupted => true,
-        ErrorKind::WouldBlock => {
-            pause(rt);
-            true
-        }
-        _ => false,
+    // The line for an error.
+    fn fail(&self, error: io::Error) {
+        let mut text = Cursor::new([0u8; MAX_TEXT]);
+        let _ = write!(text, "{error}");
+        let count = (text.position() as usize).min(MAX_TEXT);
+        let bytes = text.into_inner();
+        self.say(words(str::from_utf8(&bytes[..count]).unwrap_or("")));
     }
-}
 
-// What a call on these bytes came to, by its answer.
-fn came_to(rt: &(impl Eprint + Clock), answer: io::Result<usize>, bytes: &[u8], what: &[u8]) -> Call
-    ensures { Moves result (length bytes.now) }
-{
-    match answer {
-        Ok(0) => Call::Ended,
-        Ok(n) => Call::Moved(n.min(bytes.len())),
-        Err(error) => {
-            if is_repeated(rt, error) {
-                return Call::Moved(0);
+    // A thousandth of a second: short for whoever waits, and long enough to leave the processor to others.
+    fn pause(&self) {
+        thread::sleep(self.rt, Duration::from_millis(1));
+    }
+
+    // Whether the call that failed is to be made again: at once where a signal interrupted it, after a pause where it came too early.
+    fn is_repeated(&self, error: io::Error) -> bool {
+        match error.kind() {
+            ErrorKind::Interrupted => true,
+            ErrorKind::WouldBlock => {
+                self.pause();
+                true
             }
-            fail(rt, what, error);
-            Call::Failed
+            _ => false,
         }
+    }
+
+    // What a call on these bytes came to, by its answer.
+    fn came_to(&self, answer: io::Result<usize>, bytes: &[u8]) -> Call
+        ensures { Moves result (length bytes.now) }
+    {
+        match answer {
+            Ok(0) => Call::Ended,
+            Ok(n) => Call::Moved(n.min(bytes.len())),
+            Err(error) => {
+                if self.is_repeated(error) {
+                    return Call::Moved(0);
+                }
+                self.fail(error);
+                Call::Failed
+            }
+        }
+    }
+
+    // Reads once.
+    fn read_once(&self, input: &mut impl Read, buf: &mut [u8]) -> Call
+        ensures { Moves result (length buf.new) }
+    {
+        let answer = input.read(buf);
+        self.came_to(answer, buf)
     }
 }
 
-// Reads once.
-fn read_once(rt: &(impl Eprint + Clock), input: &mut impl Read, buf: &mut [u8], what: &[u8]) -> Call
-    ensures { Moves result (length buf.new) }
-{
-    let answer = input.read(buf);
-    came_to(rt, answer, buf, what)
+impl<R: Print + Eprint + Clock> Stream<'_, R> {
+    // Writes once.
+    fn write_once(&self, bytes: &[u8]) -> Call
+        ensures { Moves result (length bytes.now) }
+    {
+        let answer = self.rt.write_some(bytes);
+        self.came_to(answer, bytes)
+    }
 }
 
-// Writes once.
-fn write_once(rt: &(impl Print + Eprint + Clock), bytes: &[u8], what: &[u8]) -> Call
-    ensures { Moves result (length bytes.now) }
-{
-    let answer = rt.write_some(bytes);
-    came_to(rt, answer, bytes, what)
-}
-
-// Reads standard input to its end, or until the buffer is full. Where that fails, a line on standard error says `what`, and why.
-pub fn read_input(rt: &(impl io::Input + Eprint + Clock), buf: &mut [u8], what: &[u8]) -> Input
+// Reads standard input to its end, or until the buffer is full, and counts the bytes. Where that fails, a line on standard error says
+// `what`, and why.
+pub fn read_input(
+    rt: &(impl io::Input + Eprint + Clock),
+    buf: &mut [u8],
+    what: &[u8],
+) -> Option<usize>
     ensures { Fills result buf.new }
 {
+    let stream = Stream { rt, what };
     let mut input = rt.reader();
-    let mut done: usize = 0;
-    let mut calls = CALLS;
-    while done < buf.len() {
-        if calls == 0 {
-            fail(rt, what, io::Error::from(ErrorKind::TimedOut));
-            return Input::Failed;
+    let mut done = 0;
+    for _ in 0..CALLS {
+        if done >= buf.len() {
+            break;
         }
-        match read_once(rt, &mut input, &mut buf[done..], what) {
-            Call::Moved(n) => {
-                done += n;
-            }
-            Call::Ended => {
-                return Input::Read(done);
-            }
-            Call::Failed => {
-                return Input::Failed;
-            }
+        match stream.read_once(&mut input, &mut buf[done..]) {
+            Call::Moved(n) => done += n,
+            Call::Ended => return Some(done),
+            Call::Failed => return None,
         }
-        calls -= 1;
     }
-    Input::Read(done)
+    if done < buf.len() {
+        stream.fail(io::Error::from(ErrorKind::TimedOut));
+        return None;
+    }
+    Some(done)
 }
 
 // Writes a report to standard output. Where that fails, a line on standard error says `what`, and why.
-pub fn write_report(rt: &(impl Print + Eprint + Clock), report: &[u8], what: &[u8]) -> Output
+pub fn write_report(
+    rt: &(impl Print + Eprint + Clock),
+    report: &[u8],
+    what: &[u8],
+) -> Result<(), Unwritten>
     ensures { Writes result (length report.now) }
 {
-    let mut done: usize = 0;
-    let mut calls = CALLS;
-    while done < report.len() {
-        if calls == 0 {
-            fail(rt, what, io::Error::from(ErrorKind::TimedOut));
-            return Output::Part(done);
+    let stream = Stream { rt, what };
+    let mut written = 0;
+    for _ in 0..CALLS {
+        if written >= report.len() {
+            break;
         }
-        match write_once(rt, &report[done..], what) {
-            Call::Moved(n) => {
-                done += n;
-            }
+        match stream.write_once(&report[written..]) {
+            Call::Moved(n) => written += n,
             Call::Ended => {
-                takes_nothing(rt, what);
-                return Output::Part(done);
+                stream.say("takes nothing");
+                return Err(Unwritten { written });
             }
-            Call::Failed => {
-                return Output::Part(done);
-            }
+            Call::Failed => return Err(Unwritten { written }),
         }
-        calls -= 1;
     }
-    Output::Whole
+    if written < report.len() {
+        stream.fail(io::Error::from(ErrorKind::TimedOut));
+        return Err(Unwritten { written });
+    }
+    Ok(())
 }

@@ -4,7 +4,7 @@
 // A file that is missing differs.
 #![tactic(auto)]
 
-ghost use Rattle.vectors.specs.Counts.{IsPrefixLen};
+ghost use Rattle.stdio.specs.Moving.{IsPrefixLen};
 
 use std::env::FillError;
 use std::fs::File;
@@ -21,18 +21,12 @@ const REPORT_ROOM: usize = 4096;
 // Room for a bench text: one that fills it is longer than any of the form.
 const TEXT_ROOM: usize = 65536;
 
-// Whether a file is there, and how many of its bytes were read.
-#[derive(Clone, Copy)]
-struct Loaded {
-    found: bool,
-    count: usize,
-}
-
 // Reads until the buffer is full, the file ends or a read fails, and counts what stands at the start of the buffer.
 fn read_full(file: &mut impl Read, buf: &mut [u8]) -> usize
     ensures { IsPrefixLen result buf.new }
 {
     let mut done: usize = 0;
+    // No range counts this: a read goes on by as many bytes as it gives.
     while done < buf.len() {
         match file.read(&mut buf[done..]) {
             Ok(0) => break,
@@ -43,74 +37,54 @@ fn read_full(file: &mut impl Read, buf: &mut [u8]) -> usize
     done
 }
 
-// Reads a file into a buffer, as far as it fits.
-fn load(rt: &impl Files, path: &[u8], buf: &mut [u8]) -> Loaded
-    ensures { IsPrefixLen result.count buf.new }
-{
+// What a file holds, as far as it fits into the room; or there is no such file.
+fn load<'a>(rt: &impl Files, path: &[u8], room: &'a mut [u8]) -> Option<&'a [u8]> {
     // Bytes that are no text name no file, as an empty name does.
     let name = str::from_utf8(path).unwrap_or("");
-    let Ok(mut file) = File::open(rt, name) else {
-        return Loaded {
-            found: false,
-            count: 0,
-        };
-    };
-    let count = read_full(&mut file, buf);
-    Loaded {
-        found: true,
-        count: count,
-    }
+    let mut file = File::open(rt, name).ok()?;
+    let count = read_full(&mut file, room);
+    Some(&room[..count])
 }
 
-// The report of a text at the start of a buffer, and how many bytes it has.
-fn report(text: &[u8], buf: &mut [u8]) -> usize
-    ensures { IsPrefixLen result buf.new }
-{
-    let reported = bench_text::report(text, buf);
-    reported.count
+// The report of a text.
+fn report<'a>(text: &[u8], room: &'a mut [u8]) -> &'a [u8] {
+    let count = bench_text::report(text, room).unwrap_or(0);
+    &room[..count]
 }
 
-// Whether the report of a text is what a file holds.
-fn is_reported(rt: &impl Files, text: &[u8], path: &[u8]) -> bool {
-    let mut made = [0u8; REPORT_ROOM];
-    let count = report(text, &mut made);
-    let mut expected = [0u8; REPORT_ROOM];
-    let loaded = load(rt, path, &mut expected);
-    let holds = loaded.count;
-    loaded.found & (made[..count] == expected[..holds])
-}
-
-// Whether the report of the text in one file is what another holds. A text that fills the buffer is longer than any of the form.
+// Whether the report of the text in one file is what another holds. A text that fills its room is longer than any of the form.
 fn files_agree(rt: &impl Files, text_path: &[u8], report_path: &[u8]) -> bool {
-    let mut text = [0u8; TEXT_ROOM];
-    let loaded = load(rt, text_path, &mut text);
-    let count = loaded.count;
-    loaded.found & is_reported(rt, &text[..count], report_path)
+    let mut text_room = [0u8; TEXT_ROOM];
+    let mut made_room = [0u8; REPORT_ROOM];
+    let mut expected_room = [0u8; REPORT_ROOM];
+    let Some(text) = load(rt, text_path, &mut text_room) else {
+        return false;
+    };
+    let made = report(text, &mut made_room);
+    load(rt, report_path, &mut expected_room) == Some(made)
 }
 
-// Whether a vector agrees: its text's name, NAME.in, has this length. One that is too short or too long names no vector.
-fn vector_agrees(rt: &impl Files, text_path: [u8; MAX_NAME], length: usize) -> bool {
-    if length < 2 {
+// Whether a vector agrees: its text's name is NAME.in. One that is too short or too long names no vector.
+fn vector_agrees(rt: &impl Files, text_path: &[u8]) -> bool {
+    let length = text_path.len();
+    if !(2..MAX_NAME).contains(&length) {
         return false;
     }
-    if MAX_NAME <= length {
-        return false;
-    }
-    let mut report_path = text_path;
-    report_path[length - 2] = b'o';
-    report_path[length - 1] = b'u';
-    report_path[length] = b't';
-    files_agree(rt, &text_path[..length], &report_path[..length + 1])
+    let mut report_path = [0u8; MAX_NAME];
+    report_path[..length].copy_from_slice(text_path);
+    report_path[length - 2..length + 1].copy_from_slice(b"out");
+    files_agree(rt, text_path, &report_path[..length + 1])
 }
 
 // Runs the vector whose text an argument names, and prints the name if the report differs.
 fn differs(rt: &(impl Files + Env + Print), i: usize) -> io::Result<bool> {
-    let mut path = [0u8; MAX_NAME];
-    let length = rt.arg(i, &mut path).unwrap_or(0);
-    if vector_agrees(rt, path, length) {
+    let mut room = [0u8; MAX_NAME];
+    let length = rt.arg(i, &mut room).unwrap_or(0);
+    let path = &room[..length];
+    if vector_agrees(rt, path) {
         return Ok(false);
     }
-    rt.write_all(&path[..length])?;
+    rt.write_all(path)?;
     println!(rt; " differs")?;
     Ok(true)
 }
@@ -129,12 +103,11 @@ fn arg_count(rt: &impl Env) -> usize {
 fn main(rt: HostRuntime) -> io::Result<()> {
     let arguments = arg_count(&rt);
     let mut differing: u64 = 0;
-    let mut i = 1;
-    while i < arguments {
+    for i in 1..arguments {
         if differs(&rt, i)? {
             differing += 1;
         }
-        i += 1;
     }
-    println!(rt; "{} vectors, {differing} differ", i - 1)
+    let vectors = arguments.saturating_sub(1);
+    println!(rt; "{vectors} vectors, {differing} differ")
 }

@@ -1,2 +1,0 @@
--- What the contracts of `vectors` cite.
-pub mod Counts
