@@ -43,7 +43,7 @@ impl From<Rule> for u8 {
 }
 
 impl Rule {
-    // The same by a name of its own.
+    // The same by the name that it had first, with its promise.
     pub fn number(self) -> u8
         ensures { result ≡ rule_number (rule_name self) }
     {
@@ -72,11 +72,13 @@ pub struct Checked {
     pub clears: u32,
 }
 
-// A trace as it is lent: the cycles that both sequences have.
+// A trace as it is lent, of the cycles that both sequences have, and by what it is judged.
 #[derive(Clone, Copy)]
 struct Trace<'a> {
     control: &'a [u8],
     data: &'a [u32],
+    // Rule seq is judged.
+    seq: bool,
 }
 
 impl Trace<'_> {
@@ -105,9 +107,9 @@ impl Trace<'_> {
 
     // Judges further cycles, up to and with the next clear cycle, or up to the first breach: the one loop for a trace and for a burst. It
     // goes by places: a zip is no plainer, since a stretch begins at a place and ends at one.
-    fn judge_stretch(self, seen: Seen, seq: bool) -> Seen
+    fn judge_stretch(self, seen: Seen) -> Seen
         requires { (seen.cycles < min (length self.control.now) (length self.«data».now)) × (seen.handshakes ≤ seen.cycles) × (seen.clears ≤ seen.cycles) }
-        ensures { (w : Watch) → SoFar w self.entry.control.now self.entry.«data».now seq seen.cycles seen.handshakes seen.clears seen.watch → Leads w self.entry.control.now self.entry.«data».now seq seen.cycles (min (length self.entry.control.now) (length self.entry.«data».now)) result }
+        ensures { (w : Watch) → SoFar w self.entry.control.now self.entry.«data».now self.entry.seq seen.cycles seen.handshakes seen.clears seen.watch → Leads w self.entry.control.now self.entry.«data».now self.entry.seq seen.cycles (min (length self.entry.control.now) (length self.entry.«data».now)) result }
     {
         // Field by field, as tried for speed: the loop then keeps no bytes that lie between the fields.
         let mut watch = Watch {
@@ -128,7 +130,7 @@ impl Trace<'_> {
                     watch: watch.cleared(control, data),
                 };
             }
-            if let Some(rule) = watch.breach(control, data, seq) {
+            if let Some(rule) = watch.breach(control, data, self.seq) {
                 return Seen {
                     breach: Some(rule),
                     cycles,
@@ -138,7 +140,7 @@ impl Trace<'_> {
                 };
             }
             handshakes += usize::from(handshake(control));
-            watch = watch.next(control, data, seq);
+            watch = watch.next(control, data, self.seq);
         }
         Seen {
             breach: None,
@@ -150,8 +152,8 @@ impl Trace<'_> {
     }
 
     // The same up to the first breach, or to the end. Each turn is a stretch, so that no range counts them.
-    fn judge_all(self, watch: Watch, seq: bool) -> Seen
-        ensures { sight_of result ≡ sight_below watch self.entry.control.now self.entry.«data».now seq (min (length self.entry.control.now) (length self.entry.«data».now)) }
+    fn judge_all(self, watch: Watch) -> Seen
+        ensures { sight_of result ≡ sight_below watch self.entry.control.now self.entry.«data».now self.entry.seq (min (length self.entry.control.now) (length self.entry.«data».now)) }
     {
         let mut seen = Seen {
             breach: None,
@@ -161,7 +163,7 @@ impl Trace<'_> {
             watch,
         };
         while seen.cycles < self.cycles() {
-            seen = self.judge_stretch(seen, seq);
+            seen = self.judge_stretch(seen);
             if seen.breach.is_some() {
                 return seen;
             }
@@ -170,11 +172,11 @@ impl Trace<'_> {
     }
 
     // What is found from the start on, in a trace that is not refused.
-    fn judge(self, seq: bool) -> Checked
+    fn judge(self) -> Checked
         requires { (length self.control.now ≡ length self.«data».now) × (length self.control.now ≤ max_cycles) }
-        ensures { written (Ok result) ≡ answer_below seq (sample_at self.entry.control.now self.entry.«data».now) (length self.entry.control.now) }
+        ensures { written (Ok result) ≡ answer_below self.entry.seq (sample_at self.entry.control.now self.entry.«data».now) (length self.entry.control.now) }
     {
-        let seen = self.judge_all(Watch::start(), seq);
+        let seen = self.judge_all(Watch::start());
         let cycle = seen.cycles as u32;
         Checked {
             breach: seen.breach.map(|rule| Breach { rule, cycle }),
@@ -188,14 +190,14 @@ impl Trace<'_> {
 pub fn judge_cycles(watch: Watch, control: &[u8], data: &[u32], seq: bool) -> Seen
     ensures { sight_of result ≡ sight_below watch control.now «data».now seq (min (length control.now) (length «data».now)) }
 {
-    Trace { control, data }.judge_all(watch, seq)
+    Trace { control, data, seq }.judge_all(watch)
 }
 
 // What is found in a stream's trace, for any two sequences; `seq` switches rule seq on.
 pub fn check_stream(control: &[u8], data: &[u32], seq: bool) -> Result<Checked, Refusal>
     ensures { written result ≡ check_stream control.now «data».now seq }
 {
-    let trace = Trace { control, data };
+    let trace = Trace { control, data, seq };
     trace.refusal()?;
-    Ok(trace.judge(seq))
+    Ok(trace.judge())
 }

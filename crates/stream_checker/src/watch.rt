@@ -91,10 +91,8 @@ impl Watch {
     fn breaks_seq(self, control: u8, data: u32) -> bool
         ensures { result ≡ breaks_seq_after self (sample control «data») }
     {
-        match self.due {
-            Some(due) => carries_counter(control) & (data % COUNTERS != due),
-            None => false,
-        }
+        self.due
+            .is_some_and(|due| carries_counter(control) & (data % COUNTERS != due))
     }
 
     // The first rule in order that the next cycle breaks, where it is judged.

@@ -15,17 +15,17 @@ use Rattle.stream_checker.proofs.Trace.judge.Goals as goal
 
 pub overflow_cast-cycle : goal.overflow_cast-cycle
 overflow_cast-cycle c =
-    let inside = cycles_inside c.judge_all-seen.result _ c.args.self.control.now c.args.self.«data».now c.args.seq c.requires.0 c.judge_all-seen.ensures in
+    let inside = cycles_inside c.judge_all-seen.result _ c.args.self.control.now c.args.self.«data».now c.args.self.seq c.requires.0 c.judge_all-seen.ensures in
     omega (arith, inside, c.requires.1)
 
 pub overflow_cast-result : goal.overflow_cast-result
 overflow_cast-result c =
-    let inside = handshakes_inside c.judge_all-seen.result _ c.args.self.control.now c.args.self.«data».now c.args.seq c.requires.0 c.judge_all-seen.ensures in
+    let inside = handshakes_inside c.judge_all-seen.result _ c.args.self.control.now c.args.self.«data».now c.args.self.seq c.requires.0 c.judge_all-seen.ensures in
     omega (arith, inside, c.requires.1)
 
 pub overflow_cast-result-2 : goal.overflow_cast-result-2
 overflow_cast-result-2 c =
-    let inside = clears_inside c.judge_all-seen.result _ c.args.self.control.now c.args.self.«data».now c.args.seq c.requires.0 c.judge_all-seen.ensures in
+    let inside = clears_inside c.judge_all-seen.result _ c.args.self.control.now c.args.self.«data».now c.args.self.seq c.requires.0 c.judge_all-seen.ensures in
     omega (arith, inside, c.requires.1)
 
 -- a breach with its cycle is what is found there
@@ -45,4 +45,4 @@ returns c =
     (λ rule. IsSomeAnd c.map.result (λ (b : Breach Rule). b ≡ record { rule = rule; cycle = seen.result.cycles })) = search rules in
     ap (λ (f : Finding RuleName). answer_with f seen.result.handshakes seen.result.clears)
     (found_there seen.result.breach seen.result.cycles c.map.result placed)
-    ∙ sees_answer seen.result _ a.self.control.now a.self.«data».now a.seq c.requires.0 seen.ensures c.start.ensures
+    ∙ sees_answer seen.result _ a.self.control.now a.self.«data».now a.self.seq c.requires.0 seen.ensures c.start.ensures

@@ -46,7 +46,7 @@ pub returns : goal.returns
 returns c =
     let a = c.args in
     let l = c.loop-seen in
-    let ends = sight_ends a.watch a.self.control.now a.self.«data».now a.seq l.seen.cycles l.seen.handshakes l.seen.clears l.seen.watch l.invariant.2
+    let ends = sight_ends a.watch a.self.control.now a.self.«data».now a.self.seq l.seen.cycles l.seen.handshakes l.seen.clears l.seen.watch l.invariant.2
     (min (length a.self.control.now) (length a.self.«data».now))
     (omega (arith, c.loop-seen-test.false, c.cycles.ensures)) in
     rw l.invariant.1 ends

@@ -9,7 +9,7 @@ use Rattle.stream_checker.proofs.Trace.judge_all.Given as goal
 abbrev pub invariant-loop-seen : goal.invariant-loop-seen
 invariant-loop-seen l =
     (l.seen.cycles ≤ min (length l.self.control.now) (length l.self.«data».now)) × (l.seen.breach ≡ None)
-    × SoFar l.fn.watch l.self.control.now l.self.«data».now l.seq l.seen.cycles l.seen.handshakes l.seen.clears l.seen.watch
+    × SoFar l.fn.watch l.self.control.now l.self.«data».now l.self.seq l.seen.cycles l.seen.handshakes l.seen.clears l.seen.watch
 
 abbrev pub decreases-loop-seen : goal.decreases-loop-seen
 decreases-loop-seen l = min (length l.self.control.now) (length l.self.«data».now) - l.seen.cycles

@@ -14,8 +14,8 @@ pub returns-then-clear : goal.returns-then-clear
 returns-then-clear c w s =
     let a = c.args in
     let l = c.loop-cycles in (
-      rw (c.cleared.ensures a.seq)
-          (sight_clears w a.self.control.now a.self.«data».now a.seq l.cycles l.handshakes a.seen.clears l.watch (l.invariant.1 w s)
+      rw (c.cleared.ensures a.self.seq)
+          (sight_clears w a.self.control.now a.self.«data».now a.self.seq l.cycles l.handshakes a.seen.clears l.watch (l.invariant.1 w s)
           (sym c.clear.ensures ∙ c.if-clear.true)),
       omega (arith, l.auto.cycles),
       omega (arith, c.loop-cycles-test.true, c.cycles-cycles-end.ensures),
@@ -25,7 +25,7 @@ pub returns-in-Some : goal.returns-in-Some
 returns-in-Some c w s =
     let a = c.args in
     let l = c.loop-cycles in
-    sight_stops w a.self.control.now a.self.«data».now a.seq l.cycles l.handshakes a.seen.clears l.watch (l.invariant.1 w s)
+    sight_stops w a.self.control.now a.self.«data».now a.self.seq l.cycles l.handshakes a.seen.clears l.watch (l.invariant.1 w s)
     (min (length a.self.control.now) (length a.self.«data».now)) _
     (omega (arith, c.loop-cycles-test.true, c.cycles-cycles-end.ensures))
     (sym c.clear.ensures ∙ c.if-clear.false)
@@ -48,7 +48,7 @@ loop-cycles-preserved c =
       rw one (at_most_one l.handshakes l.cycles c.handshake.result l.invariant.0),
       λ w s.
           rw (one, c.handshake.ensures, c.next-watch.ensures)
-          (sight_goes w a.self.control.now a.self.«data».now a.seq l.cycles l.handshakes a.seen.clears l.watch (l.invariant.1 w s)
+          (sight_goes w a.self.control.now a.self.«data».now a.self.seq l.cycles l.handshakes a.seen.clears l.watch (l.invariant.1 w s)
           (sym c.clear.ensures ∙ c.if-clear.false)
           (ap rule_in (sym c.in_default.is) ∙ c.breach.ensures)),
     )

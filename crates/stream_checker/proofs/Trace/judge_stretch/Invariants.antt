@@ -8,5 +8,5 @@ use Rattle.stream_checker.proofs.Trace.judge_stretch.Given as goal
 abbrev pub invariant-loop-cycles : goal.invariant-loop-cycles
 invariant-loop-cycles l =
     (l.handshakes ≤ l.cycles)
-    × ((w : Watch) → SoFar w l.self.control.now l.self.«data».now l.seq l.seen.cycles l.seen.handshakes l.seen.clears l.seen.watch →
-    SoFar w l.self.control.now l.self.«data».now l.seq l.cycles l.handshakes l.seen.clears l.watch)
+    × ((w : Watch) → SoFar w l.self.control.now l.self.«data».now l.self.seq l.seen.cycles l.seen.handshakes l.seen.clears l.seen.watch →
+    SoFar w l.self.control.now l.self.«data».now l.self.seq l.cycles l.handshakes l.seen.clears l.watch)
