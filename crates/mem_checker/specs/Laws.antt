@@ -1,5 +1,7 @@
 -- What a protocol must prove of its own rule and of its open traces, and that both protocols keep it. The watch and the trace agree
--- on the cycles before; then the watch tells which rule is the first that the next cycle breaks. Assumes nothing.
+-- on the cycles before; then the watch tells which rule is the first that the next cycle breaks. The contracts of private functions cite
+-- this; the promises of `check_mem` and `check_mem_decoupled` do not. The laws of both protocols stand here, since an `impl` cannot name
+-- what stands in proofs. Assumes nothing.
 use Rattle.std.specs.Prelude.{ℕ, zero, suc, Bool, true, false, cond, not, ◌&&◌, ◌≡◌, refl}
 use Rattle.std.specs.Prelude as watch
 use Rattle.std.specs.Prelude.{None, Some}

@@ -40,15 +40,6 @@ impl From<Rule> for u8 {
     }
 }
 
-impl Rule {
-    // The same by a name of its own.
-    pub fn number(self) -> u8
-        ensures { result ≡ rule_number (rule_name self) }
-    {
-        u8::from(self)
-    }
-}
-
 // The first breach, if there is one, with the handshakes before its cycle, or in all cycles when clean, and whether a read is still open.
 #[derive(Clone, Copy)]
 pub struct Checked {

@@ -39,10 +39,8 @@ impl Watch {
     pub(crate) fn breaks_direction(self, control: u8) -> bool
         ensures { (add : ℕ) → result ≡ breaks_direction self (access control add) }
     {
-        match self.direction {
-            Some(first) => handshake(control) & (wen(control) != first),
-            None => false,
-        }
+        self.direction
+            .is_some_and(|first| handshake(control) & (wen(control) != first))
     }
 
     // The watch after a cycle more.
