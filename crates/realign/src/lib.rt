@@ -1,6 +1,7 @@
 // Source and sink realign for 32-bit streams: packets that start at any byte address, from words with strobes and back.
 //
 // Writes out request T-10, over the strobe plan of `strbgen`.
+// Address and number go apart, as the C interface gives them.
 #![tactic(auto)]
 
 mod shift; // shift.rt: words moved up by bytes

@@ -1,6 +1,7 @@
 // The strobe plan: which bytes of each word a row of 32-bit packets fills, from a byte address on.
 //
 // Writes out "Strobe plan" of document 01.
+// Address and number go apart, as the C interface gives them.
 #![tactic(auto)]
 
 ghost use Rattle.std.specs.Prelude.{◌≡◌, ◌++◌, ◌%◌, ◌≤◌, length, drop};
