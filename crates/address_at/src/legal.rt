@@ -10,6 +10,7 @@ use addressgen::Settings;
 use signals::Refusal;
 
 // Settings with a legal mask that do not overwrite themselves.
+// addressgen's run makes the same two tests and goes on from its state; it has no use for this type.
 #[derive(Clone, Copy)]
 pub(crate) struct Legal {
     pub(crate) settings: Settings,

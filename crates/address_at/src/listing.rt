@@ -51,6 +51,7 @@ impl Legal {
         ensures written { out.new ≡ met_below (address_of self.settings) others.now self.settings.total ++ drop result out.old }
     {
         let mut count = 0;
+        // The place is counted by hand: a proof knows nothing of what a `zip` with `iter_mut` leaves.
         for i in 0..self.settings.total {
             if is_found(self.address(i), others) {
                 out[count] = i;
