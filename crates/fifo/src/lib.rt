@@ -45,7 +45,7 @@ pub struct Fifo {
     pub slots: [Payload; MAX_DEPTH],
 }
 
-// A FIFO but for its slots, which lie in lent memory.
+// A FIFO but for its slots, which lie in lent memory. `Fifo` has these fields flat, as C lays it out.
 #[derive(Clone, Copy)]
 pub struct Pointers {
     pub place: Place,
@@ -78,6 +78,7 @@ impl Fifo {
         if !self.is_in_range() {
             return false;
         }
+        // By a loop: tried as `all` over the range, and search did not prove that its closure may be called at each turn.
         for i in 0..self.count {
             let held = self.slots[wrap(self.place.depth, self.oldest + i)];
             if MAX_STRB < held.strb {
@@ -140,16 +141,12 @@ impl Fifo {
         if let Some(at) = turn.joined {
             slots[at] = given.payload;
         }
+        // valid beside the payload, as C is handed them: zeros where it is 0.
         Stepped {
             ready: turn.ready,
             valid: shown.is_some(),
             payload,
-            next: Fifo {
-                place: self.place,
-                count: turn.next.count,
-                oldest: turn.next.oldest,
-                slots,
-            },
+            next: turn.next.with_slots(slots),
         }
     }
 }

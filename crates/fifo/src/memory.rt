@@ -2,6 +2,7 @@
 //
 // Slot i is word i with strobe i (`specs/Memory.antt`). A caller lays a FIFO in the memory, steps its pointers there, and gathers it again.
 // The two slices stay two parameters: a struct of them would have to promise with each call that it holds the same slices as before.
+// Nor are they one slice of payloads: the public calls take two slices, of words and of strobes, and `StepsIn` speaks of both.
 ghost use Rattle.std.specs.Prelude.{◌≡◌, ◌&&◌, leb};
 ghost use Rattle.fifo.specs.Ring.{trusted};
 ghost use Rattle.fifo.specs.Memory.{trusted_in};
@@ -10,7 +11,7 @@ ghost use Rattle.fifo.specs.Promises.{LaysIn, StepsIn};
 use super::{Fifo, MAX_DEPTH, Place, Pointers};
 use signals::{Cycle, MAX_STRB, Payload, Refusal, Stepped, ZEROS};
 
-// The pointers of no FIFO.
+// The pointers of no FIFO. No `Option`: `LaysIn` promises pointers for every FIFO, and these stand for none.
 const NOWHERE: Pointers = Pointers {
     place: Place {
         depth: 0,
@@ -54,6 +55,7 @@ impl Pointers {
         if !(self.is_in_range() & has_slots(self.place.depth, words.len(), strbs.len())) {
             return NOWHERE.with_slots(slots);
         }
+        // By index: a zip of both, each cut to the depth, and numbered, is no plainer.
         for i in 0..self.place.depth {
             slots[i] = Payload {
                 data: words[i],
@@ -91,6 +93,7 @@ impl Pointers {
             words[at] = cycle.payload.data;
             strbs[at] = cycle.payload.strb;
         }
+        // valid beside the payload, as C is handed them: zeros where it is 0.
         Ok(Stepped {
             ready: turn.ready,
             valid: shown.is_some(),

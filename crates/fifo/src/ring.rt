@@ -108,10 +108,7 @@ impl Pointers {
         requires { in_range (fifo_with self []) ≡ true }
         ensures { Shows self clear result }
     {
-        if !clear & (0 < self.count) {
-            return Some(self.oldest);
-        }
-        None
+        (!clear & (0 < self.count)).then_some(self.oldest)
     }
 
     // One cycle, nothing being refused, wherever the slots lie: the caller has read the slot that is shown, and writes the one that is

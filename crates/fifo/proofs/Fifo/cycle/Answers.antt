@@ -2,13 +2,11 @@
 use Prim.Native.Nat.{ℕ, ◌<◌}
 use native.Mathlib.Omega.{arith}
 use mathlib.Core.Bool.{true, cond}
-use mathlib.Core.List.{List, [], ◌∷◌}
-use mathlib.Core.Path.{◌≡◌, sym, ap, ap₂, ◌∙◌}
+use mathlib.Core.List.{[], ◌∷◌}
+use mathlib.Core.Path.{◌≡◌, sym, ap, ◌∙◌}
 use lib.ListN.{length}
 use Rattle.std.specs.Prelude.{Option, Some, is_some, IfSome}
-use Rattle.signals.specs.declared.Payload.{Payload}
 use Rattle.fifo.specs.declared.Fifo.{Fifo}
-use Rattle.fifo.specs.declared.Place.{Place}
 use Rattle.fifo.specs.declared.Pointers.{Pointers}
 use Rattle.fifo.specs.Queue.{max_depth, when, cleared, cycled}
 use Rattle.fifo.specs.Ring.{pointers_of, fifo_with, queue_of, in_range, trusted}
@@ -80,10 +78,8 @@ returns c =
       | in_default w ↦ w.slots-is ∙ sym (ap (λ (o : Option ℕ). set_at f.slots o g.payload) w.in_default.is)
     ]
     in
-    let same_place : f.place ≡ t.next.place = sym (c.turn-turn.ensures.same_place ∙ ap (λ (p : Pointers). p.place) c.pointers-pointers.ensures) in
-    let next : record { place = f.place; count = t.next.count; oldest = t.next.oldest; slots = c.match-turn.slots }
-    ≡ fifo_with t.next (set_at f.slots t.joined g.payload) =
-    ap₂ (λ (at : Place) (slots : List Payload). record { place = at; count = t.next.count; oldest = t.next.oldest; slots = slots }) same_place writes
+    let next : c.with_slots.result ≡ fifo_with t.next (set_at f.slots t.joined g.payload) =
+    c.with_slots.ensures ∙ ap (fifo_with t.next) writes
     in
     let full : length f.slots ≡ max_depth = omega arith in
     turn_answers c.pointers-pointers.result f.slots g.valid g.payload g.sink g.clear _ t _ _ _
