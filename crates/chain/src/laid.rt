@@ -76,9 +76,8 @@ impl Chain {
         requires { is_well (value self.now) ≡ true }
         ensures { line_of (map part_value (take self.now.count parts.new)) ≡ value self.now }
     {
-        // By index, since the prover does not know what `iter_mut` in a `zip` leaves in the parts.
-        for j in 0..self.count {
-            parts[j].lay(self.fifos[j]);
+        for (j, fifo) in self.fifos[..self.count].iter().enumerate() {
+            parts[j].lay(*fifo);
         }
     }
 
@@ -87,9 +86,8 @@ impl Chain {
         requires { legal_count self.old.count ≡ true }
         ensures { value self.new ≡ line_of (map part_value (take self.old.count parts.now)) }
     {
-        // By index, for the same reason.
-        for j in 0..self.count {
-            self.fifos[j] = parts[j].gathered();
+        for (j, part) in parts[..self.count].iter().enumerate() {
+            self.fifos[j] = part.gathered();
         }
     }
 }
