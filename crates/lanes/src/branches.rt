@@ -1,5 +1,5 @@
 // What a split reads of its source and of its branches, and what it offers them.
-ghost use Rattle.std.specs.Prelude.{◌≡◌, ◌<◌};
+ghost use Rattle.std.specs.Prelude.{◌≡◌, ◌<◌, length};
 ghost use Rattle.lanes.specs.Lanes.{max_lanes, count_of, per_lane};
 ghost use Rattle.lanes.specs.Wide.{lane};
 ghost use Rattle.lanes.specs.Split.{strobe_past, all_ready};
@@ -17,10 +17,10 @@ pub(crate) fn has_strobe_past(lanes: Lanes, wide: Wide) -> bool
     wide.strb as u32 >= weight(lanes.count())
 }
 
-pub(crate) fn all_ready(lanes: Lanes, readies: &[bool; MAX_LANES]) -> bool
-    ensures { result ≡ all_ready (count_of lanes) readies.now }
+pub(crate) fn all_ready(used: &[bool]) -> bool
+    ensures { result ≡ all_ready (length used.now) used.now }
 {
-    readies[..lanes.count()].iter().all(|ready| *ready)
+    used.iter().all(|ready| *ready)
 }
 
 // Lane i of a wide payload.

@@ -1,6 +1,6 @@
 // What a merge reads of its inputs, and the ready that it gives them.
-ghost use Rattle.std.specs.Prelude.{◌≡◌, true, false};
-ghost use Rattle.lanes.specs.Lanes.{count_of, per_lane};
+ghost use Rattle.std.specs.Prelude.{◌≡◌, ◌≤◌, true, false, length};
+ghost use Rattle.lanes.specs.Lanes.{max_lanes, count_of, per_lane};
 ghost use Rattle.lanes.specs.Wide.{strobes_below, together};
 ghost use Rattle.lanes.specs.Merge.{payload_at, legal_strobes, all_valid};
 
@@ -10,51 +10,51 @@ use signals::MAX_STRB;
 use std::array::from_fn;
 
 // Whether each strobe is legal, valid or not.
-pub(crate) fn has_legal_strobes(lanes: Lanes, inputs: &[Offer; MAX_LANES]) -> bool
-    ensures { result ≡ legal_strobes (count_of lanes) inputs.now }
+pub(crate) fn has_legal_strobes(used: &[Offer]) -> bool
+    ensures { result ≡ legal_strobes (length used.now) used.now }
 {
-    inputs[..lanes.count()]
-        .iter()
-        .all(|input| input.payload.strb <= MAX_STRB)
+    used.iter().all(|input| input.payload.strb <= MAX_STRB)
 }
 
-pub(crate) fn all_valid(lanes: Lanes, inputs: &[Offer; MAX_LANES]) -> bool
-    ensures { result ≡ all_valid (count_of lanes) inputs.now }
+pub(crate) fn all_valid(used: &[Offer]) -> bool
+    ensures { result ≡ all_valid (length used.now) used.now }
 {
-    inputs[..lanes.count()].iter().all(|input| input.valid)
+    used.iter().all(|input| input.valid)
 }
 
 // Their data, side by side.
-fn words(lanes: Lanes, inputs: &[Offer; MAX_LANES]) -> [u32; MAX_LANES]
-    ensures { result ≡ per_lane (count_of lanes) 0 (λ i. (payload_at inputs.now i).«data») }
+fn words(used: &[Offer]) -> [u32; MAX_LANES]
+    ensures { result ≡ per_lane (length used.now) 0 (λ i. (payload_at used.now i).«data») }
 {
-    from_fn(|i| if i < lanes.count() {
-        inputs[i].payload.data
+    from_fn(|i| if i < used.len() {
+        used[i].payload.data
     } else {
         0
     })
 }
 
 // Their strobes, side by side.
-fn strobes(lanes: Lanes, inputs: &[Offer; MAX_LANES]) -> u16
-    requires { legal_strobes (count_of lanes) inputs.now ≡ true }
-    ensures { result ≡ strobes_below (payload_at inputs.now) (count_of lanes) }
+fn strobes(used: &[Offer]) -> u16
+    requires few { length used.now ≤ max_lanes }
+    requires legal { legal_strobes (length used.now) used.now ≡ true }
+    ensures { result ≡ strobes_below (payload_at used.now) (length used.now) }
 {
     let mut strobes = 0;
-    for (i, input) in inputs[..lanes.count()].iter().enumerate() {
+    for (i, input) in used.iter().enumerate() {
         strobes += input.payload.strb as u32 * weight(i);
     }
     strobes as u16
 }
 
 // The wide payload that they make.
-pub(crate) fn together(lanes: Lanes, inputs: &[Offer; MAX_LANES]) -> Wide
-    requires { legal_strobes (count_of lanes) inputs.now ≡ true }
-    ensures { result ≡ together (count_of lanes) (payload_at inputs.now) }
+pub(crate) fn together(used: &[Offer]) -> Wide
+    requires few { length used.now ≤ max_lanes }
+    requires legal { legal_strobes (length used.now) used.now ≡ true }
+    ensures { result ≡ together (length used.now) (payload_at used.now) }
 {
     Wide {
-        data: words(lanes, inputs),
-        strb: strobes(lanes, inputs),
+        data: words(used),
+        strb: strobes(used),
     }
 }
 

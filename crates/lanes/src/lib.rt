@@ -20,7 +20,7 @@ use signals::{Payload, Refusal, ZEROS};
 // The most lanes of a wide stream.
 pub const MAX_LANES: usize = 4;
 
-// What a stream's source offers in one cycle.
+// What a stream's source offers in one cycle: valid beside the payload, as C is handed them: zeros where it is 0.
 #[repr(C)]
 #[derive(Clone, Copy)]
 pub struct Offer {
@@ -47,7 +47,8 @@ const NOTHING: Wide = Wide {
     strb: 0,
 };
 
-// What a merge shows its output, and the ready that it gives each input.
+// What a merge shows its output, and the ready that it gives each input: valid beside the payload, as C is handed them: zeros where it
+// is 0.
 #[derive(Clone, Copy)]
 pub struct MergeCycle {
     pub valid: bool,
@@ -61,6 +62,19 @@ pub struct SplitCycle {
     pub ready: bool,
     pub branches: [Offer; MAX_LANES],
 }
+
+// What stands where a merge is refused: every output is 0.
+pub const NO_MERGE: MergeCycle = MergeCycle {
+    valid: false,
+    wide: NOTHING,
+    readies: [false; MAX_LANES],
+};
+
+// What stands where a split is refused: every output is 0.
+pub const NO_SPLIT: SplitCycle = SplitCycle {
+    ready: false,
+    branches: [NO_OFFER; MAX_LANES],
+};
 
 // How many lanes a wide stream has.
 #[derive(Clone, Copy, Debug, PartialEq, Eq)]
@@ -100,17 +114,14 @@ pub fn merge(lanes: u8, inputs: [Offer; MAX_LANES], ready: bool) -> Result<Merge
     ensures { merge_answer result ≡ ofMerge.answer lanes inputs ready }
 {
     let lanes = Lanes::try_from(lanes)?;
-    if !has_legal_strobes(lanes, &inputs) {
+    let used = &inputs[..lanes.count()];
+    if !has_legal_strobes(used) {
         return Err(Refusal::IllegalBits);
     }
-    let valid = all_valid(lanes, &inputs);
+    let valid = all_valid(used);
     Ok(MergeCycle {
         valid,
-        wide: if valid {
-            together(lanes, &inputs)
-        } else {
-            NOTHING
-        },
+        wide: if valid { together(used) } else { NOTHING },
         readies: given(lanes, ready && valid),
     })
 }
@@ -128,7 +139,7 @@ pub fn split(
     if has_strobe_past(lanes, wide) {
         return Err(Refusal::IllegalBits);
     }
-    let ready = all_ready(lanes, &readies);
+    let ready = all_ready(&readies[..lanes.count()]);
     Ok(SplitCycle {
         ready,
         branches: offers(lanes, valid && ready, wide),

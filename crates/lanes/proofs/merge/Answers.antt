@@ -1,9 +1,10 @@
 -- Its tests are the grounds in their order, and its parts those of the cycle in the definition. Assumes nothing.
-use Rattle.std.proofs.Common.{◌≡◌, cond, ◌&&◌, sym, ◌∙◌}
+use Rattle.std.proofs.Common.{rules, length, ◌≤◌, ◌≡◌, cond, ◌&&◌, sym, ◌∙◌}
 use Rattle.std.proofs.lemmas.Result.{err_from_is_err_and}
 use Rattle.lanes.specs.Merge.{payload_at}
 use Rattle.lanes.specs.Wide.{together, wide_zeros}
 use Rattle.lanes.proofs.Answers.{merge_parts, merge_accepts, merge_refuses_strobes, merge_refuses_lanes}
+use Rattle.lanes.proofs.Used.{used_legal, used_valid, used_together}
 use Rattle.lanes.proofs.merge.Goals as goal
 use Rattle.lanes.proofs.merge.Goals.{then-valid, else-valid, then-ready, else-ready}
 
@@ -18,18 +19,25 @@ pub returns-then-not-has_legal_strobes : goal.returns-then-not-has_legal_strobes
 returns-then-not-has_legal_strobes c =
     let a = c.args in
     let known = c.in_ok-lanes.ensures in
-    let strobes = rw known.1 at c.if-not-has_legal_strobes.ensures in
+    let n = c.count.result in
+    let many : n ≡ a.lanes = c.count.ensures.value ∙ known.1 in
+    let enough : n ≤ length a.inputs = search rules in
+    let strobes = rw many at (c.if-not-has_legal_strobes.ensures ∙ used_legal a.inputs n enough) in
     sym (merge_refuses_strobes a.lanes a.inputs a.ready known.0 (sym strobes))
 
 pub returns : goal.returns
 returns c =
     let a = c.args in
     let known = c.in_ok-lanes.ensures in
-    let strobes = rw known.1 at c.if-not-has_legal_strobes.ensures in
-    let valid = rw known.1 at c.all_valid-valid.ensures in
+    let n = c.count.result in
+    let many : n ≡ a.lanes = c.count.ensures.value ∙ known.1 in
+    let enough : n ≤ length a.inputs = search rules in
+    let strobes = rw many at (c.if-not-has_legal_strobes.ensures ∙ used_legal a.inputs n enough) in
+    let valid = rw many at (c.all_valid-valid.ensures ∙ used_valid a.inputs n enough) in
     let wide : c.if-valid.result ≡ cond c.all_valid-valid.result (together a.lanes (payload_at a.inputs)) wide_zeros =
     elim c.if-valid.branch [
-      | then-valid w ↦ rw w.if-valid.true (w.result-is ∙ rw known.1 at w.together.ensures)
+      | then-valid w ↦
+          rw w.if-valid.true (w.result-is ∙ rw many at (w.together.ensures ∙ used_together a.inputs n enough c.count.ensures.few))
       | else-valid w ↦ rw w.if-valid.false w.result-is
     ]
     in

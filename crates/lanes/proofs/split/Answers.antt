@@ -1,7 +1,8 @@
 -- Its tests are the grounds in their order, and its parts those of the cycle in the definition. Assumes nothing.
-use Rattle.std.proofs.Common.{◌≡◌, ◌&&◌, sym, ◌∙◌}
+use Rattle.std.proofs.Common.{rules, length, ◌≤◌, ◌≡◌, ◌&&◌, sym, ◌∙◌}
 use Rattle.std.proofs.lemmas.Result.{err_from_is_err_and}
 use Rattle.lanes.proofs.Answers.{split_parts, split_accepts, split_refuses_strobes, split_refuses_lanes}
+use Rattle.lanes.proofs.Used.{used_ready}
 use Rattle.lanes.proofs.split.Goals as goal
 use Rattle.lanes.proofs.split.Goals.{then-valid, else-valid}
 
@@ -24,7 +25,10 @@ returns c =
     let a = c.args in
     let known = c.in_ok-lanes.ensures in
     let strobes = rw known.1 at c.if-has_strobe_past.ensures in
-    let ready = rw known.1 at c.all_ready-ready.ensures in
+    let n = c.count.result in
+    let many : n ≡ a.lanes = c.count.ensures.value ∙ known.1 in
+    let enough : n ≤ length a.readies = search rules in
+    let ready = rw many at (c.all_ready-ready.ensures ∙ used_ready a.readies n enough) in
     let offered : c.if-valid.offers ≡ a.valid && c.all_ready-ready.result =
     elim c.if-valid.branch [
       | then-valid w ↦ rw w.if-valid.true w.offers-is

@@ -5,4 +5,4 @@ use Rattle.lanes.specs.Wide.{strobes_below}
 use Rattle.lanes.proofs.inputs.strobes.Given as goal
 
 abbrev pub invariant-loop-i : goal.invariant-loop-i
-invariant-loop-i l = l.strobes ≡ strobes_below (payload_at l.inputs) l.i
+invariant-loop-i l = l.strobes ≡ strobes_below (payload_at l.used) l.i
