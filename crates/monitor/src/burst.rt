@@ -49,7 +49,7 @@ impl Monitor {
         Watch {
             control: self.last_control(),
             data: self.payload.data,
-            due: if self.counted { Some(self.due) } else { None },
+            due: self.counted.then_some(self.due),
         }
     }
 

@@ -3,7 +3,8 @@ ghost use Rattle.std.specs.Prelude.{cond, ◌≡◌, leb, ltb};
 ghost use Rattle.monitor.specs.Record.{in_range, in_place, handshakes_and_clears, clean_form, broken_after_stall, broken_by_seq, broken_form, legal};
 
 use crate::Monitor;
-use signals::{BROKEN, CLEAN, MAX_STRB, SEQ, ZEROS};
+use signals::{BROKEN, CLEAN, MAX_STRB, ZEROS};
+use stream_checker::Rule;
 use stream_checker::watch::COUNTERS;
 
 impl Monitor {
@@ -52,14 +53,15 @@ impl Monitor {
     fn broken_after_stall(self) -> bool
         ensures { result ≡ broken_after_stall self }
     {
-        ((self.rule == 4) | (self.rule == 2)) & (self.handshakes_and_clears() < self.cycle as usize)
+        ((self.rule == u8::from(Rule::Held)) | (self.rule == u8::from(Rule::Stable)))
+            & (self.handshakes_and_clears() < self.cycle as usize)
     }
 
     // Rule seq is broken after a handshake with a counter.
     fn broken_by_seq(self) -> bool
         ensures { result ≡ broken_by_seq self }
     {
-        (self.rule == SEQ)
+        (self.rule == u8::from(Rule::Seq))
             & (self.seq
                 & ((0 < self.handshakes) & (self.handshakes_and_clears() <= self.cycle as usize)))
     }
