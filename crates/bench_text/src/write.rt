@@ -53,6 +53,7 @@ impl Report {
     }
 
     // Given bytes, after the others.
+    // Each asks for room: one that could fail would have an answer that no caller has a use for.
     fn put(&mut self, given: &[u8])
         requires { length self.old + length given.now ≤ ROOM }
         ensures { self.new ≡ self.old ++ given.now }

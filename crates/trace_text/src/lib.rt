@@ -137,7 +137,7 @@ fn header(text: &[u8]) -> Option<(Parsed, &[u8])>
     Some((Parsed { seq, cycles }, rest))
 }
 
-// So many cycle lines and nothing after them, written into two arrays.
+// So many cycle lines and nothing after them, written into two arrays and not one of entries, as `check_stream` is lent two.
 fn cycle_lines(text: &[u8], cycles: usize, control: &mut [u8], words: &mut [u32]) -> Option<()>
     requires { (cycles ≤ length control.old) × (cycles ≤ length words.old) }
     ensures { columns (form.cycle_lines cycles text.now) ≡ columns_read result (take cycles control.new) (take cycles words.new) }
@@ -150,7 +150,7 @@ fn cycle_lines(text: &[u8], cycles: usize, control: &mut [u8], words: &mut [u32]
         words[i] = entry.word;
         rest = after;
     }
-    if rest.is_empty() { Some(()) } else { None }
+    rest.is_empty().then_some(())
 }
 
 // A whole text. The trace is written into two arrays that hold the longest; they are left as they were where the text is refused.
