@@ -34,7 +34,7 @@ pub struct MemVerdict {
     pub open: bool,
 }
 
-// A verdict on a trace that is not refused.
+// A verdict on a trace that is not refused. In numbers, as the two structs for C take its fields.
 #[derive(Clone, Copy)]
 struct Judged {
     verdict: u8,

@@ -75,7 +75,7 @@ pub extern "C" fn floealder_fifo_new(place: Place) -> FifoNew
     }
 }
 
-// A match: `unwrap_or` would copy the state once more, and a chain's step would take a quarter longer.
+// Both steps, this one and a chain's, match: `unwrap_or` would copy the state once more, and a chain's step would take a quarter longer.
 #[unsafe(no_mangle)]
 pub extern "C" fn floealder_fifo_step(
     fifo: Fifo,

@@ -4,8 +4,7 @@ ghost use Rattle.lanes.specs.Merge as ofMerge;
 ghost use Rattle.lanes.specs.Split as ofSplit;
 ghost use Rattle.exports.specs.Lanes.{merge_numbers, split_numbers};
 
-use lanes::{MAX_LANES, MergeCycle, Offer, SplitCycle, Wide};
-use signals::ZEROS;
+use lanes::{MAX_LANES, MergeCycle, NO_MERGE, NO_SPLIT, Offer, SplitCycle, Wide};
 
 // What each input offers.
 #[repr(C)]
@@ -39,24 +38,6 @@ pub struct SplitStep {
     pub ready: bool,
     pub branches: [Offer; MAX_LANES],
 }
-
-// Refused, each output is 0.
-const NO_MERGE: MergeCycle = MergeCycle {
-    valid: false,
-    wide: Wide {
-        data: [0; MAX_LANES],
-        strb: 0,
-    },
-    readies: [false; MAX_LANES],
-};
-
-const NO_SPLIT: SplitCycle = SplitCycle {
-    ready: false,
-    branches: [Offer {
-        valid: false,
-        payload: ZEROS,
-    }; MAX_LANES],
-};
 
 #[unsafe(no_mangle)]
 pub extern "C" fn floealder_merge(lanes: u8, inputs: Inputs, ready: bool) -> MergeStep
