@@ -20,7 +20,7 @@ impl fmt::Display for Shown {
     }
 }
 
-// Document 01's number of a refusal, or 0 where nothing is refused.
+// Document 01's number of a refusal, or 0 where nothing is refused. exports has the same for C, and no program calls exports.
 fn number<T: Drop>(answer: Result<T, Refusal>) -> u8 {
     answer.err().map_or(0, Refusal::number)
 }

@@ -32,7 +32,7 @@ const OFFER: Cycle = Cycle {
     clear: false,
 };
 
-// A place as it is printed: its kind only where it is early-stall.
+// A place as it is printed: its kind only where it is early-stall. fifo_demo prints it otherwise.
 #[derive(Drop)]
 struct Shown(Place);
 
@@ -53,6 +53,7 @@ fn print_end<T: Drop>(rt: &impl Print, answer: Result<T, Refusal>) -> io::Result
     }
 }
 
+// A place by its kind: two names, where one function would take a flag at each call.
 fn plain(depth: usize) -> Place {
     Place {
         depth,

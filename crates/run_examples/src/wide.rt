@@ -1,27 +1,8 @@
 // Merges and splits of wide streams.
 use crate::print_end;
-use lanes::{MAX_LANES, MergeCycle, Offer, SplitCycle, Wide};
-use signals::{Payload, ZEROS};
+use lanes::{MAX_LANES, NO_MERGE, NO_SPLIT, Offer, Wide};
+use signals::Payload;
 use std::{fmt, io};
-
-// What is printed where a merge is refused: the zeros that C is given. `lanes` has no use for them, since its refusal shows nothing.
-const NO_MERGE: MergeCycle = MergeCycle {
-    valid: false,
-    wide: Wide {
-        data: [0; MAX_LANES],
-        strb: 0,
-    },
-    readies: [false; MAX_LANES],
-};
-
-// What is printed where a split is refused.
-const NO_SPLIT: SplitCycle = SplitCycle {
-    ready: false,
-    branches: [Offer {
-        valid: false,
-        payload: ZEROS,
-    }; MAX_LANES],
-};
 
 // A wide word as it is printed.
 #[derive(Drop)]

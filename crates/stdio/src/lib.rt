@@ -4,11 +4,12 @@
 // reads or writes no contract can say; `specs/Moving.antt` has what can be promised.
 #![tactic(auto)]
 
-ghost use Rattle.std.specs.Prelude.{length};
+ghost use Rattle.std.specs.Prelude.{◌-◌, ◌<◌, ◌≤◌, length, MatchResult};
 ghost use Rattle.stdio.specs.Moving.{Fills, Writes};
 ghost use Rattle.stdio.specs.Calls.{Moves};
 
 use std::io::{Cursor, ErrorKind, Read, Write};
+use std::ops::Range;
 use std::rt::Clock;
 use std::time::Duration;
 use std::{fmt, io, str, thread};
@@ -20,6 +21,7 @@ pub struct Unwritten {
 }
 
 // One call moved so many bytes, none where it is to be made again; it found the end; or it failed.
+// Moved(0) and no fourth outcome: the loop does the same with both.
 #[derive(Clone, Copy, Debug, PartialEq, Eq)]
 enum Call {
     Moved(usize),
@@ -109,6 +111,35 @@ impl<R: Eprint + Clock> Stream<'_, R> {
         }
     }
 
+    // Makes calls, each for the range of bytes that are left, until all are moved, one finds the end or one fails. Answers how many bytes
+    // are moved, as an error where that is for a failure.
+    fn move_all<F: FnMut(Range<usize>) -> Call>(
+        &self,
+        total: usize,
+        mut call: F,
+    ) -> Result<usize, usize>
+        requires callable { F.IsAlwaysCallable call }
+        requires moves { (before : F) (range : _) (moved : Call) (after : F) → F.step before range moved after → Moves moved (range.end - range.start) }
+        ensures { MatchResult result (λ done. done ≤ total) (λ done. done < total) }
+    {
+        let mut done = 0;
+        for _ in 0..CALLS {
+            if done >= total {
+                return Ok(done);
+            }
+            match call(done..total) {
+                Call::Moved(n) => done += n,
+                Call::Ended => return Ok(done),
+                Call::Failed => return Err(done),
+            }
+        }
+        if done < total {
+            self.fail(io::Error::from(ErrorKind::TimedOut));
+            return Err(done);
+        }
+        Ok(done)
+    }
+
     // Reads once.
     fn read_once(&self, input: &mut impl Read, buf: &mut [u8]) -> Call
         ensures { Moves result (length buf.new) }
@@ -139,22 +170,13 @@ pub fn read_input(
 {
     let stream = Stream { rt, what };
     let mut input = rt.reader();
-    let mut done = 0;
-    for _ in 0..CALLS {
-        if done >= buf.len() {
-            break;
-        }
-        match stream.read_once(&mut input, &mut buf[done..]) {
-            Call::Moved(n) => done += n,
-            Call::Ended => return Some(done),
-            Call::Failed => return None,
-        }
-    }
-    if done < buf.len() {
-        stream.fail(io::Error::from(ErrorKind::TimedOut));
-        return None;
-    }
-    Some(done)
+    // `get_mut`, here and below `get`: what calls a closure that may be called with any range needs to know nothing of its buffer.
+    stream
+        .move_all(buf.len(), |range| match buf.get_mut(range) {
+            Some(rest) => stream.read_once(&mut input, rest),
+            None => Call::Ended,
+        })
+        .ok()
 }
 
 // Writes a report to standard output. Where that fails, a line on standard error says `what`, and why.
@@ -166,22 +188,14 @@ pub fn write_report(
     ensures { Writes result (length report.now) }
 {
     let stream = Stream { rt, what };
-    let mut written = 0;
-    for _ in 0..CALLS {
-        if written >= report.len() {
-            break;
-        }
-        match stream.write_once(&report[written..]) {
-            Call::Moved(n) => written += n,
-            Call::Ended => {
-                stream.say("takes nothing");
-                return Err(Unwritten { written });
-            }
-            Call::Failed => return Err(Unwritten { written }),
-        }
-    }
+    let written = stream
+        .move_all(report.len(), |range| match report.get(range) {
+            Some(rest) => stream.write_once(rest),
+            None => Call::Ended,
+        })
+        .map_err(|written| Unwritten { written })?;
     if written < report.len() {
-        stream.fail(io::Error::from(ErrorKind::TimedOut));
+        stream.say("takes nothing");
         return Err(Unwritten { written });
     }
     Ok(())

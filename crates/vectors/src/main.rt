@@ -39,8 +39,8 @@ fn read_full(file: &mut impl Read, buf: &mut [u8]) -> usize
 
 // What a file holds, as far as it fits into the room; or there is no such file.
 fn load<'a>(rt: &impl Files, path: &[u8], room: &'a mut [u8]) -> Option<&'a [u8]> {
-    // Bytes that are no text name no file, as an empty name does.
-    let name = str::from_utf8(path).unwrap_or("");
+    // Bytes that are no text name no file.
+    let name = str::from_utf8(path).ok()?;
     let mut file = File::open(rt, name).ok()?;
     let count = read_full(&mut file, room);
     Some(&room[..count])
@@ -48,6 +48,7 @@ fn load<'a>(rt: &impl Files, path: &[u8], room: &'a mut [u8]) -> Option<&'a [u8]
 
 // The report of a text.
 fn report<'a>(text: &[u8], room: &'a mut [u8]) -> &'a [u8] {
+    // A refused report is empty, which none of the vectors is, and so differs.
     let count = bench_text::report(text, room).unwrap_or(0);
     &room[..count]
 }
@@ -79,6 +80,7 @@ fn vector_agrees(rt: &impl Files, text_path: &[u8]) -> bool {
 // Runs the vector whose text an argument names, and prints the name if the report differs.
 fn differs(rt: &(impl Files + Env + Print), i: usize) -> io::Result<bool> {
     let mut room = [0u8; MAX_NAME];
+    // An argument that does not fit is an empty name, which differs.
     let length = rt.arg(i, &mut room).unwrap_or(0);
     let path = &room[..length];
     if vector_agrees(rt, path) {
@@ -91,13 +93,9 @@ fn differs(rt: &(impl Files + Env + Print), i: usize) -> io::Result<bool> {
 
 // How many arguments there are, with the program's name.
 fn arg_count(rt: &impl Env) -> usize {
-    let mut none = [0u8; 0];
-    for i in 0..usize::MAX {
-        if let Err(FillError::NotPresent) = rt.arg(i, &mut none) {
-            return i;
-        }
-    }
-    usize::MAX
+    (0..usize::MAX)
+        .find(|i| matches!(rt.arg(*i, &mut []), Err(FillError::NotPresent)))
+        .unwrap_or(usize::MAX)
 }
 
 fn main(rt: HostRuntime) -> io::Result<()> {
