@@ -1,4 +1,5 @@
--- Document 01, "Traces as recorded": the control byte of a memory trace, and a cycle of such a trace. Assumes nothing.
+-- Document 01, "Traces as recorded": the control byte of a memory trace, and a cycle of such a trace.
+-- Each bit by a definition of its own: one over the bit's place would divide by 1 for bit 0. Assumes nothing.
 use Rattle.std.specs.Prelude.{ℕ, ◌/◌, ◌%◌, Bool, ◌&&◌, List, get_or, eqb}
 
 -- bit 0

@@ -1,4 +1,5 @@
--- Document 01, "Traces as recorded", with request T-09: the control byte of a stream, and a cycle of a stream's trace. Assumes nothing.
+-- Document 01, "Traces as recorded", with request T-09: the control byte of a stream, and a cycle of a stream's trace.
+-- Each bit by a definition of its own: one over the bit's place would divide by 1 for bit 0. Assumes nothing.
 use Rattle.std.specs.Prelude.{ℕ, ◌/◌, ◌%◌, Bool, not, ◌&&◌, List, get_or, eqb}
 use Rattle.signals.specs.declared.Payload.{Payload}
 

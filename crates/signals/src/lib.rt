@@ -16,7 +16,7 @@ use std::fmt;
 // How many cycles a trace may hold.
 pub const MAX_CYCLES: usize = 65536;
 
-// The largest strobe of a 32-bit word: a bit for each byte.
+// The largest strobe of a 32-bit word: a bit for each byte. A test of a strobe is one comparison with it, and so no function.
 pub const MAX_STRB: u8 = 15;
 
 // The verdicts' numbers, where a call for C answers no enum: 0 is none, for a trace that is refused.
@@ -31,7 +31,8 @@ pub const SEQ: u8 = 100;
 
 pub const ALIGN: u8 = 101;
 
-// The two limits as values; each is the definitions' limit.
+// The two limits as functions too: the length of an array is no call, so that each is a constant, and a public function that promises
+// that it is the definitions'.
 pub fn max_cycles() -> usize
     ensures { result ≡ max_cycles }
 {
@@ -52,10 +53,11 @@ pub struct Payload {
     pub strb: u8,
 }
 
-// What is shown when valid is 0.
+// What is shown when valid is 0: a constant, which a `Default` would not be.
 pub const ZEROS: Payload = Payload { data: 0, strb: 0 };
 
-// What a step is given: what the source offers, whether the sink is ready, and whether this is a clear.
+// What a step is given: what the source offers, whether the sink is ready, and whether this is a clear. valid beside the payload and no
+// `Option`: they are wires of their own, and an illegal strobe is refused with valid 0 too (`step_grounds` of `fifo`).
 #[derive(Clone, Copy, Debug, PartialEq, Eq)]
 pub struct Cycle {
     pub valid: bool,
@@ -64,7 +66,8 @@ pub struct Cycle {
     pub clear: bool,
 }
 
-// What a step shows, and the state after it.
+// What a step shows, and the state after it. valid beside the payload, with zeros where it is 0, as the definitions read them
+// (`answered` of `fifo`, `stepping` of `chain`).
 #[derive(Clone, Copy)]
 pub struct Stepped<S> {
     pub ready: bool,
@@ -120,7 +123,7 @@ impl From<Refusal> for u8 {
 }
 
 impl Refusal {
-    // The same by a name of its own.
+    // The same by the name that it had first: a public function stays, with its promise.
     pub fn number(self) -> u8
         ensures { result ≡ number_of self }
     {
@@ -131,7 +134,7 @@ impl Refusal {
 // A refusal is printed by its number.
 impl fmt::Display for Refusal {
     fn fmt<W: fmt::Write>(&self, f: &mut fmt::Formatter<W>) -> fmt::Result {
-        write!(f, "{}", self.number())
+        write!(f, "{}", u8::from(*self))
     }
 }
 
