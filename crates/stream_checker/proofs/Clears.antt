@@ -2,11 +2,10 @@
 -- there on both traces have the same cycles. Assumes nothing.
 use Prim.Native.Nat.{ℕ, zero, suc, ◌+◌}
 use native.Mathlib.Nat.{add-zero, add-suc}
-use mathlib.Core.Bool.{Bool, true, false, cond}
-use mathlib.Core.Option.{Option, none, some}
-use mathlib.Core.Path.{◌≡◌, ap}
+use mathlib.Core.Bool.{Bool, true, false}
+use mathlib.Core.Path.{◌≡◌}
 use Rattle.signals.specs.Stream.{Sample, clear_cycle}
-use Rattle.stream_checker.specs.Rules.{stalled, breaks_held, breaks_stable, between, counter, carries_counter, last_counter}
+use Rattle.stream_checker.specs.Rules.{stalled, breaks_held, breaks_stable, between, last_counter}
 use Rattle.stream_checker.specs.Meaning.{Afresh}
 
 module _ (trace : ℕ → Sample) (c : ℕ) (clear : clear_cycle (trace c) ≡ true) where
@@ -25,9 +24,7 @@ module _ (trace : ℕ → Sample) (c : ℕ) (clear : clear_cycle (trace c) ≡ t
 
   counter_afresh : (k : ℕ) → last_counter trace (suc c + k) ≡ last_counter behind k
   counter_afresh zero = rw (add-zero (suc c), clear)
-  counter_afresh (suc k) =
-      rw (add-suc (suc c) k)
-      (ap (λ (o : Option ℕ). cond (clear_cycle (behind k)) none (cond (carries_counter (behind k)) (some (counter (behind k))) o)) (counter_afresh k))
+  counter_afresh (suc k) = rw (add-suc (suc c) k, counter_afresh k)
 
 pub afresh : Afresh
 afresh seq_on trace c clear k =

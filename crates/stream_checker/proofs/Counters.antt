@@ -7,19 +7,12 @@ use mathlib.Core.Logic.{⊎_elim}
 use mathlib.Core.Option.{Option, none, some}
 use mathlib.Core.Path.{◌≡◌, refl, sym, ◌∙◌, ap}
 use lib.Dec.{eqb}
-use borrow.Author.Tests.{eq-eqb, ne_eqb}
+use borrow.Author.Tests.{eqb-false, ne_eqb, not-true}
 use Rattle.signals.specs.Stream.{Sample, clear_cycle}
 use Rattle.signals.proofs.Bools.{either, both, not_both}
 use Rattle.signals.proofs.Judging.{order_of, before_or_last}
 use Rattle.stream_checker.specs.Rules.{carries_counter, counter, after_counter, last_counter, out_of_seq}
 use Rattle.stream_checker.specs.Meaning.{LastCarrier, LeavesSequence, SeqByIndex}
-
--- two numbers differ, as a test and as a fact
-unlike : (m n : ℕ) → not (eqb m n) ≡ true → m ≡ n → ⊥
-unlike m n e q = false≢true (rw (eq-eqb m n q) at e)
-
-unlike_test : (m n : ℕ) → (m ≡ n → ⊥) → not (eqb m n) ≡ true
-unlike_test m n h = rw (ne_eqb m n h)
 
 module _ (trace : ℕ → Sample) where
   -- the last cycle before cycle c that carries a counter carries n
@@ -100,15 +93,14 @@ module _ (trace : ℕ → Sample) where
         last = s.at;
         is_last = s.is_last;
         carries = b.0;
-        other = λ q. unlike (counter (trace c)) (after_counter n) b.1 (q ∙ ap after_counter s.has);
+        other = λ q. eqb-false (counter (trace c)) (after_counter n) (not-true _ b.1) (q ∙ ap after_counter s.has);
       }
 
   left : (c : ℕ) (last : Option ℕ) → LastSays c last → LeavesSequence trace c → carries_counter (trace c) && out_of_seq last (counter (trace c)) ≡ true
   left c none s t = absurd (s t.last t.is_last)
   left c (some n) s t =
       let same = ap (λ (k : ℕ). counter (trace k)) (last_same c t.last s.at t.is_last s.is_last) in
-      rw t.carries
-      (unlike_test (counter (trace c)) (after_counter n) (λ q. t.other (q ∙ ap after_counter (sym s.has ∙ sym same))))
+      rw (t.carries, ne_eqb (counter (trace c)) (after_counter n) (λ q. t.other (q ∙ ap after_counter (sym s.has ∙ sym same))))
 
 pub seq_by_index_lem : SeqByIndex
 seq_by_index_lem trace c = (leaves trace c (last_counter trace c) (says trace c), left trace c (last_counter trace c) (says trace c))

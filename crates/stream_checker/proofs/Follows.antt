@@ -4,14 +4,12 @@ use Prim.Native.Nat.{ℕ, zero, suc}
 use mathlib.Core.Bool.{Bool, true, false, cond}
 use mathlib.Core.List.{List}
 use mathlib.Core.Option.{Option, none, some}
-use mathlib.Core.Path.{◌≡◌, refl, ◌∙◌, ap}
+use mathlib.Core.Path.{◌≡◌, refl}
 use Rattle.std.specs.Prelude as std
 use Rattle.std.specs.Prelude.{Some, None}
 use Rattle.signals.specs.Stream.{Sample, sample, sample_at, clear_cycle}
-use Rattle.signals.specs.Tables.{Row}
-use Rattle.signals.specs.Written.{RuleName}
 use Rattle.stream_checker.specs.declared.watch.Watch.{Watch}
-use Rattle.stream_checker.specs.Rules.{stalled, breaks_held, breaks_stable, between, counter, after_counter, carries_counter, last_counter, out_of_seq, breaks_seq, in_order, unless_clear, rules}
+use Rattle.stream_checker.specs.Rules.{stalled, breaks_held, breaks_stable, between, counter, after_counter, carries_counter, last_counter, out_of_seq, breaks_seq, in_order, rules}
 use Rattle.stream_checker.specs.Step.{start, before, not_due, breaks_seq_after, rules_of, rules_after, next, watch_after, rules_from}
 
 -- s is the cycle before cycle i; before the first, one that is not stalled
@@ -42,7 +40,7 @@ due_seq (some m) n = refl
 
 -- rule seq counts only where it is judged
 seq_judged : (seq_on held stable a b : Bool) → (seq_on ≡ true → a ≡ b) → in_order seq_on held stable a ≡ in_order seq_on held stable b
-seq_judged true held stable a b h = ap (λ (c : Bool). in_order true held stable c) (h refl)
+seq_judged true held stable a b h = rw (h refl)
 seq_judged false held stable a b h = refl
 
 module _ (seq_on : Bool) (trace : ℕ → Sample) where
@@ -62,7 +60,7 @@ module _ (seq_on : Bool) (trace : ℕ → Sample) where
       (breaks : (before now : Sample) → Bool) → ((s now : Sample) → stalled s ≡ false → breaks s now ≡ false) →
       (i : ℕ) (s : Sample) → Previous trace i s → breaks s (trace i) ≡ between breaks trace i
   between_same breaks free zero s h = free s (trace zero) h
-  between_same breaks free (suc c) s h = ap (λ (t : Sample). breaks t (trace (suc c))) h
+  between_same breaks free (suc c) s h = rw h
 
   seq_same : (i : ℕ) (w : Watch) → w.due ≡ due_by (last_counter trace i) → breaks_seq_after w (trace i) ≡ breaks_seq trace i
   seq_same i w h = rw (h, due_seq (last_counter trace i) (counter (trace i)))
@@ -74,12 +72,10 @@ module _ (seq_on : Bool) (trace : ℕ → Sample) where
   order_same i w f =
       let held = between_same breaks_held (λ s now h. rw h) i (before w) f.previous in
       let stable = between_same breaks_stable (λ s now h. rw h) i (before w) f.previous in
-      ap (λ (b : Bool). in_order seq_on b (breaks_stable (before w) (trace i)) (breaks_seq_after w (trace i))) held
-      ∙ ap (λ (b : Bool). in_order seq_on (between breaks_held trace i) b (breaks_seq_after w (trace i))) stable
-      ∙ seq_judged seq_on (between breaks_held trace i) (between breaks_stable trace i) _ _ (λ on. seq_same i w (f.counters on))
+      rw (held, stable) (seq_judged seq_on _ _ _ _ (λ on. seq_same i w (f.counters on)))
 
   rules_same : (i : ℕ) (w : Watch) → Follows seq_on trace i w → rules_after w (trace i) seq_on ≡ rules seq_on trace i
-  rules_same i w f = ap (λ (rows : List (Row RuleName)). unless_clear (trace i) rows) (order_same i w f)
+  rules_same i w f = rw (order_same i w f)
 
 module _ (seq_on : Bool) (controls words : List ℕ) where
   -- from the start on the watch follows the trace, through every cycle

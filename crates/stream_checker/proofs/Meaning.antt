@@ -1,12 +1,10 @@
 -- What the answer of `check_stream` means: the judgement by `means` of signals, for the stream's grounds and rules, and the clear cycles
 -- by what the verdict says. Assumes nothing.
-use mathlib.Core.Path.{ap}
 use lib.ListN.{length}
 use Rattle.signals.specs.Stream.{sample_at}
-use Rattle.signals.specs.Written.{Written}
 use Rattle.signals.proofs.Written.{means}
 use Rattle.stream_checker.specs.Rules.{rules}
-use Rattle.stream_checker.specs.Verdicts.{grounds, handshake_at, clears_by, check_stream}
+use Rattle.stream_checker.specs.Verdicts.{grounds, handshake_at, check_stream}
 use Rattle.stream_checker.specs.Meaning.{EveryAnswer}
 
 pub every_answer_lem : EveryAnswer
@@ -16,7 +14,7 @@ every_answer_lem controls words seq_on =
     let n = length controls in
     record {
       judges = means (grounds controls words) (rules seq_on trace) (handshake_at trace) n;
-      clean_clears = λ e. ap (λ (v : Written). clears_by v trace n) e;
-      broken_clears = λ rule c e. ap (λ (v : Written). clears_by v trace n) e;
-      refused_clears = λ number e. ap (λ (v : Written). clears_by v trace n) e;
+      clean_clears = λ e. rw e;
+      broken_clears = λ rule c e. rw e;
+      refused_clears = λ number e. rw e;
     }

@@ -1,6 +1,6 @@
 -- The checker's step over one cycle: what it keeps of the cycles before, which rule one more breaks first, and so over further cycles.
--- `judge_cycles` and the private functions cite this; the promise of `check_stream` does not. Assumes nothing.
-use Rattle.std.specs.Prelude.{ℕ, zero, suc, ◌<◌, ◌≤◌, Bool, false, cond, not, ◌&&◌, ◌||◌, List, [], ◌∷◌, ◌≡◌, eqb, get_or, Some, None}
+-- `judge_cycles`, the private functions and the records of `monitor` cite this; the promise of `check_stream` does not. Assumes nothing.
+use Rattle.std.specs.Prelude.{ℕ, zero, suc, ◌<◌, ◌≤◌, Bool, false, cond, not, ◌&&◌, ◌||◌, List, [], ◌∷◌, ◌≡◌, eqb, min, length, get_or, Some, None}
 use Rattle.std.specs.Prelude as std
 use Rattle.std.proofs.Math.Option.{Option, none, some}
 use Rattle.signals.specs.Judging.{Finding, clean, broken, count_below, finding_below, cycles_counted}
@@ -22,7 +22,7 @@ start = record { control = 0; «data» = 0; due = None }
 abbrev pub before : Watch → Sample
 before w = sample w.control w.«data»
 
--- a counter that is not the one due; where none was carried before, any is
+-- a counter that is not the one due; where none was carried since the last clear cycle, any is
 abbrev pub not_due : (due : std.Option ℕ) → ℕ → Bool
 not_due None n = false
 not_due (Some due) n = not (eqb n due)
@@ -52,6 +52,10 @@ next seq_on w control word =
       «data» = word;
       due = cond (clear_cycle now) None (cond (seq_on && carries_counter now) (Some (after_counter (counter now))) w.due);
     }
+
+-- how many cycles both sequences have
+abbrev pub common_length : (controls words : List ℕ) → ℕ
+common_length controls words = min (length controls) (length words)
 
 -- the watch after the first n of further cycles
 abbrev pub watch_after : (seq_on : Bool) → Watch → (controls words : List ℕ) → ℕ → Watch

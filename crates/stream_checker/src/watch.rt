@@ -7,8 +7,7 @@ ghost use Rattle.signals.specs.Tables.{first_applying};
 ghost use Rattle.stream_checker.specs.Step.{before, start, breaks_seq_after, rules_of, rule_in, next};
 
 use crate::Rule;
-use signals::Payload;
-use signals::stream::{clear, ready, strb, valid};
+use signals::stream::{clear, payload, ready, strb, valid};
 
 // The counter is the low 16 bits of data: there are so many counters, and 0 follows the last.
 pub const COUNTERS: u32 = 65536;
@@ -50,16 +49,6 @@ pub fn stalled(control: u8) -> bool
     !clear(control) & (valid(control) & !ready(control))
 }
 
-// What a cycle shows.
-fn payload(control: u8, data: u32) -> Payload
-    ensures { result ≡ (sample control «data»).payload }
-{
-    Payload {
-        data,
-        strb: strb(control),
-    }
-}
-
 // The counter that follows the one in a word.
 fn due_after(data: u32) -> u32
     ensures { result ≡ after_counter (counter (sample 0 «data»)) }
@@ -67,7 +56,9 @@ fn due_after(data: u32) -> u32
     (data % COUNTERS + 1) % COUNTERS
 }
 
-// A cycle's two entries go through these apart, as a trace lends them: a struct of both would be made for each call and taken apart in it.
+// A cycle's two entries go through these apart, as a trace lends them and as the public fields of `Watch` and the definition `next` have
+// them.
+// `seq` goes beside them and is no field of `Watch`: `judge_cycles` promises for any watch and any `seq`, and would be given it twice.
 impl Watch {
     // Before the first cycle nothing is stalled and no counter was carried.
     pub fn start() -> Watch
