@@ -6,6 +6,8 @@ use mathlib.Core.Bool.{Bool, true, false, not, beq, ◌&&◌, false≢true}
 use mathlib.Core.Logic.{⊎_elim}
 use mathlib.Core.Option.{Option, none, some}
 use mathlib.Core.Path.{◌≡◌, refl, sym, ◌∙◌, ap}
+use borrow.Author.Tests.{not-true}
+use Rattle.std.specs.Cmp.{booleans_Decides}
 use Rattle.signals.specs.Memory.{Access, granted}
 use Rattle.signals.proofs.Bools.{either, both, not_both}
 use Rattle.signals.proofs.Judging.{order_of, before_or_last}
@@ -14,16 +16,10 @@ use Rattle.mem_checker.specs.Meaning.{FirstHandshake, Turns, DirectionByIndex}
 
 -- two bools differ, as a test and as a fact
 unlike : (a b : Bool) → not (beq a b) ≡ true → a ≡ b → ⊥
-unlike true true e q = false≢true e
-unlike true false e q = false≢true (sym q)
-unlike false true e q = false≢true q
-unlike false false e q = false≢true e
+unlike a b e q = not_both (beq a b) ((booleans_Decides a b).1 q) (not-true (beq a b) e)
 
 unlike_test : (a b : Bool) → (a ≡ b → ⊥) → not (beq a b) ≡ true
-unlike_test true true h = absurd (h refl)
-unlike_test true false h = refl
-unlike_test false true h = refl
-unlike_test false false h = absurd (h refl)
+unlike_test a b h = ⊎_elim (λ t. absurd (h ((booleans_Decides a b).0 t))) (λ f. rw f) (either (beq a b))
 
 module _ (trace : ℕ → Access) where
   -- the first handshake before cycle c has this wen

@@ -1,4 +1,3 @@
 pub mod Direction
 pub mod Meaning
-pub mod Pairs
 pub mod Watching

@@ -3,11 +3,10 @@
 -- this; the promises of `check_mem` and `check_mem_decoupled` do not. The laws of both protocols stand here, since an `impl` cannot name
 -- what stands in proofs. Assumes nothing.
 use Rattle.std.specs.Prelude.{ℕ, zero, suc, Bool, true, false, cond, not, ◌&&◌, ◌≡◌, refl}
-use Rattle.std.specs.Prelude as watch
-use Rattle.std.specs.Prelude.{None, Some}
-use Rattle.std.proofs.Math.Option.{Option, none, some}
+use Rattle.std.proofs.Common.{sym, ap, ◌∙◌}
+use Rattle.std.proofs.Math.Option.{none, some}
 use Rattle.signals.specs.Tables.{first_applying}
-use Rattle.signals.specs.Memory.{Access}
+use Rattle.signals.specs.Memory.{Access, granted}
 use Rattle.signals.specs.Judging.{clean}
 use Rattle.signals.specs.Written.{align, judged}
 use Rattle.mem_checker.specs.declared.Rule.{Rule}
@@ -16,12 +15,7 @@ use Rattle.mem_checker.specs.declared.watch.Watch.{Watch}
 use Rattle.mem_checker.specs.Rules.{Protocol, mem, mem_decoupled, rules, breaks2, breaks_align, first_wen, differs}
 use Rattle.mem_checker.specs.Verdicts.{ends_in_read, is_open}
 use Rattle.mem_checker.specs.Written.{rule_name}
-use Rattle.mem_checker.specs.Step.{turns_from, breaks_response, breaks_direction}
-
--- the wen of the first handshake, as the rules write it
-abbrev pub wen_of : watch.Option Bool → Option Bool
-wen_of None = none
-wen_of (Some first) = some first
+use Rattle.mem_checker.specs.Step.{wen_of, breaks_response, breaks_direction}
 
 pub record ProtocolLaws (protocol : Protocol) (breaks : Watch → Access → Bool) (own : Rule) (reads_stay_open : Bool) : Type 0 where
   -- its own rule comes before align
@@ -32,7 +26,13 @@ pub record ProtocolLaws (protocol : Protocol) (breaks : Watch → Access → Boo
   pub open_at_end : (trace : ℕ → Access) (n : ℕ) → reads_stay_open && ends_in_read trace n ≡ is_open (judged clean) protocol trace n
 
 pub mem_laws : ProtocolLaws mem breaks_response Response true
-mem_laws = record { first_broken = λ trace c w r d. rw (response_is trace c, r); open_at_end = λ trace n. refl }
+mem_laws =
+    record {
+      first_broken = λ trace c w r d.
+          ap (λ b. cond b (some (rule_name Response)) (cond (breaks_align (trace c)) (some align) none))
+          (response_is trace c ∙ ap (λ b. b && not (trace c).r_valid) (sym r));
+      open_at_end = λ trace n. refl;
+    }
   where
     -- rule 2 as the watch tells it: the cycle before was a read handshake, and r_valid is 0
     response_is : (trace : ℕ → Access) (c : ℕ) → breaks2 trace c ≡ ends_in_read trace c && not (trace c).r_valid
@@ -41,9 +41,9 @@ mem_laws = record { first_broken = λ trace c w r d. rw (response_is trace c, r)
 
 pub mem_decoupled_laws : ProtocolLaws mem_decoupled breaks_direction Direction false
 mem_decoupled_laws =
-    record { first_broken = λ trace c w r d. rw (← d, differs_is w.direction (trace c).wen); open_at_end = λ trace n. refl }
-  where
-    -- rule 4 as the watch tells it: there was a handshake, and its wen is another
-    differs_is : (direction : watch.Option Bool) (wen : Bool) → differs (wen_of direction) wen ≡ turns_from direction wen
-    differs_is None wen = refl
-    differs_is (Some first) wen = refl
+    record {
+      first_broken = λ trace c w r d.
+          ap (λ first. cond (granted (trace c) && differs first (trace c).wen) (some (rule_name Direction))
+          (cond (breaks_align (trace c)) (some align) none)) (sym d);
+      open_at_end = λ trace n. refl;
+    }

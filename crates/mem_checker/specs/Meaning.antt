@@ -1,5 +1,6 @@
 -- Document 01, "Memory rules": what the answers of `check_mem` and `check_mem_decoupled` mean, cycle by cycle.
--- `every_answer_lem` of `proofs/Meaning.antt` proves it for every input, `direction_by_index_lem` of `proofs/Direction.antt` for rule 4. Assumes nothing.
+-- `every_answer_lem` of `proofs/Meaning.antt` proves it for every input, `direction_by_index_lem` of `proofs/Direction.antt` for rule 4.
+-- Assumes nothing.
 use Rattle.std.specs.Prelude.{ℕ, suc, ◌<◌, true, false, List, ◌↔◌, ◌≡◌, length}
 use Rattle.signals.specs.Tables.{Row, NoneIn}
 use Rattle.signals.specs.Memory.{Access, access_at, granted}

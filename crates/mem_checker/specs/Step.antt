@@ -1,12 +1,13 @@
 -- The checkers' step over one cycle: what they keep of the cycles before, which rule one more breaks, and what they keep after it.
 -- The contracts of private functions cite this; the promises of `check_mem` and `check_mem_decoupled` do not. Assumes nothing.
-use Rattle.std.specs.Prelude.{ℕ, ◌+◌, Bool, false, cond, not, ◌&&◌, Option, None, Some}
-use Rattle.std.specs.Bool.{beq}
+use Rattle.std.specs.Prelude as std
+use Rattle.std.specs.Prelude.{ℕ, ◌+◌, Bool, false, cond, not, ◌&&◌, None, Some, unwrap_or}
+use Rattle.std.proofs.Math.Option.{Option, none, some}
 use Rattle.signals.specs.Memory.{Access, granted}
 use Rattle.mem_checker.specs.declared.Rule.{Rule}
 use Rattle.mem_checker.specs.declared.Checked.{Checked}
 use Rattle.mem_checker.specs.declared.watch.Watch.{Watch}
-use Rattle.mem_checker.specs.Rules.{Protocol, read_handshake}
+use Rattle.mem_checker.specs.Rules.{Protocol, read_handshake, differs}
 use Rattle.mem_checker.specs.Verdicts.{Answer, answer, judged_by}
 
 -- the answer to n cycles that are not refused
@@ -25,25 +26,20 @@ start = record { reading = false; direction = None; handshakes = 0 }
 abbrev pub breaks_response : Watch → Access → Bool
 breaks_response w now = w.reading && not now.r_valid
 
--- another wen than the first handshake's, if there was one
-abbrev pub turns_from : Option Bool → Bool → Bool
-turns_from None wen = false
-turns_from (Some first) wen = not (beq wen first)
+-- the wen of the first handshake, as the rules write it
+abbrev pub wen_of : std.Option Bool → Option Bool
+wen_of None = none
+wen_of (Some first) = some first
 
 -- whether it breaks rule 4 of HWPE-MemDecoupled
 abbrev pub breaks_direction : Watch → Access → Bool
-breaks_direction w now = granted now && turns_from w.direction now.wen
-
--- the wen of the first handshake, where this cycle is one
-abbrev pub first_wen_with : Option Bool → Bool → Bool
-first_wen_with None wen = wen
-first_wen_with (Some first) wen = first
+breaks_direction w now = granted now && differs (wen_of w.direction) now.wen
 
 -- the watch after a cycle
 abbrev pub next : Watch → Access → Watch
 next w now =
     record {
       reading = read_handshake now;
-      direction = cond (granted now) (Some (first_wen_with w.direction now.wen)) w.direction;
+      direction = cond (granted now) (Some (unwrap_or w.direction now.wen)) w.direction;
       handshakes = w.handshakes + cond (granted now) 1 0;
     }

@@ -12,7 +12,8 @@ use signals::Breach;
 
 // The verdict on a trace of legal length, which stops at the first breach.
 pub(crate) fn judge<P: Protocol>(control: &[u8], add: &[u32]) -> Checked
-    requires { (length add.now ≡ length control.now) × (length control.now ≤ max_cycles) }
+    requires same { length add.now ≡ length control.now }
+    requires short { length control.now ≤ max_cycles }
     ensures { written (Ok result) ≡ unrefused P.named (access_at control.now add.now) (length control.now) }
 {
     let mut watch = Watch::start();

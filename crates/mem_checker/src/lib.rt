@@ -40,7 +40,8 @@ impl From<Rule> for u8 {
     }
 }
 
-// The first breach, if there is one, with the handshakes before its cycle, or in all cycles when clean, and whether a read is still open.
+// The first breach, if there is one, with the handshakes before its cycle, or in all cycles when clean, and whether a read is still open. A
+// struct of its own: the stream checker's has clear cycles in place of that.
 #[derive(Clone, Copy)]
 pub struct Checked {
     pub breach: Option<Breach<Rule>>,
@@ -48,7 +49,8 @@ pub struct Checked {
     pub open: bool,
 }
 
-// The verdict on an HWPE-Mem trace, for any four sequences: side by side, as the C interface lends them.
+// The verdict on an HWPE-Mem trace, for any four sequences: side by side, as the C interface lends them. This call and the next are public
+// by their names, so that the generic one stays private with its trait.
 pub fn check_mem(
     control: &[u8],
     add: &[u32],
@@ -72,7 +74,7 @@ pub fn check_mem_decoupled(
     check::<MemDecoupled>(control, add, data, r_data)
 }
 
-// The refusals 1 and 3, then the verdict.
+// The refusals 1 and 3, then the verdict. Of `data` and `r_data` only the lengths count.
 #[tactic(auto, unfolding(crate::specs::Verdicts::check_mem))]
 fn check<P: Protocol>(
     control: &[u8],

@@ -9,8 +9,11 @@ ghost use Rattle.mem_checker.specs.Step.{breaks_response, breaks_direction};
 ghost use Rattle.mem_checker.specs.Laws.{ProtocolLaws, mem_laws, mem_decoupled_laws};
 
 use crate::Rule;
-use crate::watch::Watch;
+use crate::watch::{Watch, handshake};
+use signals::memory::{r_valid, wen};
 
+// A clause names a trait's constant by a ghost member of that name alone, so each of the two constants stands as both; the check proves
+// them equal.
 pub(crate) trait Protocol {
     // The protocol, as the rules name it.
     ghost named: { ofRules.Protocol };
@@ -36,6 +39,7 @@ pub(crate) trait Protocol {
     ghost laws: { ProtocolLaws named breaks RULE READS_STAY_OPEN };
 }
 
+// HWPE-Mem.
 pub(crate) struct Mem;
 
 impl Protocol for Mem {
@@ -53,11 +57,13 @@ impl Protocol for Mem {
 
     ghost laws = { mem_laws };
 
+    // Rule 2: a read handshake stands before this cycle, which has r_valid 0.
     fn breaks(watch: Watch, control: u8) -> bool {
-        watch.breaks_response(control)
+        watch.reading & !r_valid(control)
     }
 }
 
+// HWPE-MemDecoupled.
 pub(crate) struct MemDecoupled;
 
 impl Protocol for MemDecoupled {
@@ -75,7 +81,10 @@ impl Protocol for MemDecoupled {
 
     ghost laws = { mem_decoupled_laws };
 
+    // Rule 4: this cycle is a handshake, with another wen than the first.
     fn breaks(watch: Watch, control: u8) -> bool {
-        watch.breaks_direction(control)
+        watch
+            .direction
+            .is_some_and(|first| handshake(control) & (wen(control) != first))
     }
 }

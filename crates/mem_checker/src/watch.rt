@@ -1,11 +1,11 @@
-// What the rules remember of the cycles before, and what they say of one cycle more.
-ghost use Rattle.std.specs.Prelude.{◌≡◌, ℕ, ◌<◌};
+// What the rules remember of the cycles before, the step over one cycle more, and the rule that both protocols have.
+ghost use Rattle.std.specs.Prelude.{◌≡◌, ◌<◌};
 ghost use Rattle.signals.specs.Refusals.{max_cycles};
 ghost use Rattle.signals.specs.Memory.{access, granted};
 ghost use Rattle.mem_checker.specs.Rules.{breaks_align};
-ghost use Rattle.mem_checker.specs.Step.{start, breaks_response, breaks_direction, next};
+ghost use Rattle.mem_checker.specs.Step.{start, next};
 
-use signals::memory::{gnt, r_valid, req, wen};
+use signals::memory::{gnt, req, wen};
 
 #[derive(Clone, Copy)]
 pub(crate) struct Watch {
@@ -28,21 +28,6 @@ impl Watch {
         }
     }
 
-    // HWPE-Mem rule 2: a read handshake stands before this cycle, which has r_valid 0.
-    pub(crate) fn breaks_response(self, control: u8) -> bool
-        ensures { (add : ℕ) → result ≡ breaks_response self (access control add) }
-    {
-        self.reading & !r_valid(control)
-    }
-
-    // HWPE-MemDecoupled rule 4: this cycle is a handshake, with another wen than the first.
-    pub(crate) fn breaks_direction(self, control: u8) -> bool
-        ensures { (add : ℕ) → result ≡ breaks_direction self (access control add) }
-    {
-        self.direction
-            .is_some_and(|first| handshake(control) & (wen(control) != first))
-    }
-
     // The watch after a cycle more.
     pub(crate) fn next(self, control: u8) -> Watch
         requires { self.handshakes < max_cycles }
@@ -62,7 +47,7 @@ impl Watch {
     }
 }
 
-fn handshake(control: u8) -> bool
+pub(crate) fn handshake(control: u8) -> bool
     ensures { result ≡ granted (access control 0) }
 {
     req(control) & gnt(control)

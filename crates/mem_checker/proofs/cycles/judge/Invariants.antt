@@ -1,5 +1,4 @@
--- `mem_checker::cycles::judge` meets its contract. The invariant: the watch follows the trace over the cycles passed (`Follows`),
--- which `Watching` keeps over a turn and turns into the answer at each return. Assumes nothing.
+-- `judge` meets its contract. The invariant: the watch follows the trace over the cycles passed (`Follows`). Assumes nothing.
 use lib.ListN.{length}
 use Rattle.signals.specs.Memory.{access_at}
 use Rattle.mem_checker.proofs.Watching.{Follows}
