@@ -14,8 +14,8 @@ fn out_of_range(cycles: usize, select: u8, first: usize, count: usize) -> bool
 }
 
 // The part of trace select that begins at cycle first and has count cycles; refused, the empty part at the start of trace 0, which no
-// accepted call gives. It answers the part and no `Result`, since `part_at result` promises where the empty part lies; select is a number,
-// as C gives it, so that another than 0 and 1 is refused.
+// accepted call gives. It answers the part and no `Result`, since `part_at result` promises where the empty part lies. `select` is one
+// number, and `first` and `count` are two, as C gives them: another trace than 0 and 1 is refused, and a part whose end no number holds.
 pub fn mux_static<'a>(
     t0: &'a [u8],
     t1: &'a [u8],
