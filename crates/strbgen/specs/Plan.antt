@@ -1,6 +1,7 @@
 -- Document 01, "Strobe plan": how many words the packets take, and the strobe of each. m is the byte address's remainder by 4,
 -- and n the number of packets. Assumes nothing.
-use Rattle.std.specs.Prelude.{ℕ, ◌+◌, ◌%◌, Bool, cond, ◌||◌, ◌&&◌, List, [], ◌∷◌, ◌++◌, ◌≡◌, eqb, ltb, length, get_or, drop, Result, Ok, Err}
+use Rattle.std.specs.Prelude.{ℕ, ◌+◌, ◌%◌, Bool, cond, ◌||◌, ◌&&◌, List, [], ◌∷◌, ◌++◌, ◌≡◌, eqb, ltb, length, get_or, drop, Result}
+use Rattle.std.specs.Result.{result_unwrap_or}
 use Rattle.signals.specs.Tables.{Row, ◌⇐◌, first_applying}
 use Rattle.signals.specs.Refusals.{refusal_of, accepts}
 use Rattle.signals.specs.Sequences.{entries_below, every_below}
@@ -50,13 +51,9 @@ grounds address n room = 3 ⇐ ltb max_packets n ∷ 7 ⇐ ltb room (word_count 
 abbrev pub words_of : (address n room : ℕ) → ℕ
 words_of address n room = cond (accepts (first_applying (grounds address n room))) (word_count (address % 4) n) 0
 
--- how many words an answer counts: refused, none
-abbrev pub counted : Result ℕ Refusal → ℕ
-counted (Ok words) = words
-counted (Err why) = 0
-
--- what a call answers, and what its buffer holds afterwards: the strobes from its start, and beyond them what it had before
+-- what a call answers (refused, it counts no words), and what its buffer holds afterwards: the strobes from its start, and beyond them
+-- what it had before
 pub record Planned (address n : ℕ) (before after : List ℕ) (answered : Result ℕ Refusal) : Type 0 where
   pub refusal : refusal_of answered ≡ first_applying (grounds address n (length before))
-  pub words : counted answered ≡ words_of address n (length before)
-  pub written : after ≡ strobes (address % 4) (counted answered) ++ drop (counted answered) before
+  pub words : result_unwrap_or answered 0 ≡ words_of address n (length before)
+  pub written : after ≡ strobes (address % 4) (result_unwrap_or answered 0) ++ drop (result_unwrap_or answered 0) before

@@ -14,6 +14,6 @@ returns-after-loop-strobe c =
     let words = c.plan_words.result in
     let size : length a.given.now ≡ words = c.if-given-plan_words.false in
     let end : l.strobe-index ≡ length (take (length a.given.now - 1 - 1) (drop 1 a.given.now)) = omega arith in
-    let parts = rw (end, c.first_strobe-in-len2-up.ensures, c.last_strobe.ensures) at l.invariant in
+    let parts = rw (end, c.ends-first.ensures.0, c.ends-first.ensures.1) at l.invariant in
     each_planned (a.address % 4) a.n words a.given.now c.plan_words.ensures size l.same
     (parts ∙ by_parts (a.address % 4) words a.given.now (omega arith) size)
