@@ -5,10 +5,11 @@ use native.Mathlib.Omega.{arith}
 use mathlib.Core.Bool.{true}
 use mathlib.Core.List.{List, ◌++◌}
 use mathlib.Core.Option.{none}
-use mathlib.Core.Path.{◌≡◌, sym, ◌∙◌, ap}
-use lib.ListN.{length, drop}
+use mathlib.Core.Path.{◌≡◌, sym, ◌∙◌}
+use lib.ListN.{length, take, drop}
 use borrow.Author.Tests.{eqb-true, ltb-false, not-false}
 use Rattle.std.specs.Prelude.{Ok}
+use Rattle.std.proofs.lemmas.List.{length-take-le}
 use Rattle.signals.specs.Tables.{first_applying, NoneIn}
 use Rattle.signals.specs.Sequences.{entries_below}
 use Rattle.signals.proofs.Tables.{none_keeps}
@@ -45,14 +46,16 @@ module _ (m n : ℕ) (words strobes : List ℕ) (room : ℕ) (e : first_applying
 module _ (address n : ℕ) (words strobes before : List ℕ) where
   pub sourced :
       first_applying (ofSource.grounds (address % 4) n words strobes (length before)) ≡ none →
-      (left : List ℕ) → left ≡ entries_below (word_from (address % 4) words) n ++ drop n before →
-      Sources address n words strobes before left (Ok n)
-  sourced e left h =
-      let packets = source_packets (address % 4) n strobes (remainder_less address) (source_plan (address % 4) n words strobes _ e) words (source_count (address % 4) n words strobes _ e) in
+      (made : List ℕ) → made ≡ entries_below (word_from (address % 4) words) (length (take n before)) →
+      Sources address n words strobes before (made ++ drop n before) (Ok n)
+  sourced e made h =
+      let size : length (take n before) ≡ n = length-take-le n before (source_room (address % 4) n words strobes (length before) e) in
+      let plan = source_plan (address % 4) n words strobes (length before) e in
+      let count = source_count (address % 4) n words strobes (length before) e in
       record {
         refusal = rw e;
         count = rw e (sym (length_entries _ n));
-        written = rw e (h ∙ ap (λ made. made ++ drop n before) packets);
+        written = rw (e, h, size, source_packets (address % 4) n strobes (remainder_less address) plan words count);
       }
 
 -- a sink that is accepted

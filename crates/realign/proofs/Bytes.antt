@@ -2,32 +2,18 @@
 -- bytes are the others' and the upper ones its own: quotients by powers of two, over the number of bytes. Assumes nothing.
 use Prim.Native.Nat.{ℕ, zero, suc, ◌+◌, ◌*◌, ◌-◌, ◌/◌, ◌%◌, ◌^◌, ◌<◌}
 use native.Mathlib.Omega.{arith}
-use native.Mathlib.Nat.{zero-add, mul_assoc, add-mul-div_right, add-mul-mod_self_right, mod-lt, div-eq_of_lt}
-use mathlib.Core.Path.{◌≡◌, sym, ap, ap₂, ◌∙◌}
+use native.Mathlib.Nat.{mul_assoc, add-mul-div_right, add-mul-mod_self_right, mod-lt, div-eq_of_lt}
+use mathlib.Core.Path.{◌≡◌, sym, ap, ◌∙◌}
 use lib.Pow.{pow_pos, pow-add, shr-shr, mod-pow-add}
+use Rattle.std.proofs.lemmas.Grind.{common_steps}
 use Rattle.realign.specs.Bytes.{byte_of, word_of}
 
 -- words of the same bytes
 pub same_bytes : (f g : ℕ → ℕ) → ((j : ℕ) → j < 4 → f j ≡ g j) → word_of f ≡ word_of g
-same_bytes f g same =
-    ap₂ (λ low top. low + top * 2 ^ 24)
-    (ap₂ (λ low top. low + top * 2 ^ 16)
-    (ap₂ (λ low top. low + top * 2 ^ 8) (same 0 (omega arith)) (same 1 (omega arith)))
-    (same 2 (omega arith)))
-    (same 3 (omega arith))
+same_bytes f g same = grind (arith, common_steps, same 0, same 1, same 2, same 3)
 
 pub word_of_bytes : (word : ℕ) → word_of (byte_of word) ≡ word % 2 ^ 32
-word_of_bytes word =
-    four (byte_of word 0) (byte_of word 1) (byte_of word 2) (byte_of word 3) (word % 2 ^ 16) (word % 2 ^ 24) (word % 2 ^ 32)
-    (mod-pow-add word 8 8 ∙ ap (λ low. byte_of word 1 * 2 ^ 8 + low) lowest) (mod-pow-add word 8 16) (mod-pow-add word 8 24)
-  where
-    lowest : word % 2 ^ 8 ≡ byte_of word 0
-    lowest = omega arith
-
-    four :
-        (a b c d low2 low3 low4 : ℕ) → low2 ≡ b * 2 ^ 8 + a → low3 ≡ c * 2 ^ 16 + low2 → low4 ≡ d * 2 ^ 24 + low3 →
-        a + b * 2 ^ 8 + c * 2 ^ 16 + d * 2 ^ 24 ≡ low4
-    four a b c d low2 low3 low4 e f g = omega arith
+word_of_bytes word = grind (arith, common_steps, mod-pow-add word 8 8, mod-pow-add word 8 16, mod-pow-add word 8 24)
 
 pub byte_of_word : (f : ℕ → ℕ) → ((j : ℕ) → f j < 2 ^ 8) → (j : ℕ) → j < 4 → byte_of (word_of f) j ≡ f j
 byte_of_word f small zero h = omega (arith, small 0, small 1, small 2, small 3)
@@ -41,10 +27,7 @@ byte_small word j = mod-lt (word / 2 ^ (8 * j)) (pow_pos 8)
 
 -- the bytes of a word from byte k on
 pub byte_above : (word k j : ℕ) → byte_of (word / 2 ^ (8 * k)) j ≡ byte_of word (k + j)
-byte_above word k j = ap (λ q. q % 2 ^ 8) (shr-shr word (8 * k) (8 * j) ∙ ap (λ e. word / 2 ^ e) (sum k j))
-  where
-    sum : (k j : ℕ) → 8 * k + 8 * j ≡ 8 * (k + j)
-    sum k j = omega arith
+byte_above word k j = grind (arith, common_steps, shr-shr word (8 * k) (8 * j))
 
 -- a word moved up by some bytes, behind others
 module _ (left word bytes : ℕ) where
@@ -52,10 +35,8 @@ module _ (left word bytes : ℕ) where
   moved = left + word * 2 ^ (8 * bytes)
 
   pub byte_behind : left < 2 ^ (8 * bytes) → (j : ℕ) → byte_of moved (bytes + j) ≡ byte_of word j
-  byte_behind small j = sym (byte_above moved bytes j) ∙ ap (λ w. byte_of w j) whole
-    where
-      whole : moved / 2 ^ (8 * bytes) ≡ word
-      whole = add-mul-div_right left word (pow_pos (8 * bytes)) ∙ ap (λ q. q + word) (div-eq_of_lt small) ∙ zero-add word
+  byte_behind small j =
+      grind (arith, common_steps, byte_above moved bytes j, add-mul-div_right left word (pow_pos (8 * bytes)), div-eq_of_lt small)
 
   pub byte_before : (j : ℕ) → j < bytes → byte_of moved j ≡ byte_of left j
   byte_before j h =

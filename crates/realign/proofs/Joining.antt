@@ -2,14 +2,14 @@
 -- upper bytes the lower ones of the word, so that it is the word from some byte on. By index, over the number of bytes. Assumes nothing.
 use Prim.Native.Nat.{ℕ, suc, ◌+◌, ◌*◌, ◌-◌, ◌/◌, ◌%◌, ◌^◌, ◌<◌, ◌≤◌}
 use native.Mathlib.Omega.{arith}
-use native.Mathlib.Nat.{lt_trans, mod-eq_of_lt}
 use mathlib.Core.List.{List}
 use mathlib.Core.Logic.{⊎_elim}
-use mathlib.Core.Path.{◌≡◌, sym, ap, ap₂, ◌∙◌}
+use mathlib.Core.Path.{◌≡◌, sym, ap, ◌∙◌}
 use lib.Dec.{ltb}
-use lib.ListN.{length, get_or, get_or-eq_default}
+use lib.ListN.{length, get_or}
 use lib.Pow.{pow-lt}
 use borrow.Author.Tests.{ltb-true, ltb-false}
+use Rattle.std.proofs.lemmas.Grind.{common_steps}
 use Rattle.signals.proofs.Bools.{either}
 use Rattle.realign.specs.Bytes.{byte_of, byte_at}
 use Rattle.realign.specs.From.{word_from}
@@ -17,13 +17,7 @@ use Rattle.realign.proofs.Bytes.{same_bytes, word_of_bytes, byte_above, byte_beh
 
 -- byte j of word i
 pub byte_at_lem : (words : List ℕ) (i j : ℕ) → j < 4 → byte_at words (4 * i + j) ≡ byte_of (get_or words i 0) j
-byte_at_lem words i j h = ap₂ (λ q r. byte_of (get_or words q 0) r) quotient remainder
-  where
-    quotient : (4 * i + j) / 4 ≡ i
-    quotient = omega arith
-
-    remainder : (4 * i + j) % 4 ≡ j
-    remainder = omega arith
+byte_at_lem words i j h = grind (arith, common_steps)
 
 module _ (bytes : ℕ) (words : List ℕ) (few : bytes < 4) (i left : ℕ) (over : left ≡ get_or words i 0 / 2 ^ (32 - 8 * bytes))
     (small : left < 2 ^ (8 * bytes)) where
@@ -66,11 +60,4 @@ module _ (bytes : ℕ) (words : List ℕ) (few : bytes < 4) (i left : ℕ) (over
 
   -- past the last word
   pub word_left : length words ≤ suc i → left ≡ word_from (4 - bytes) words i
-  word_left past =
-      sym (mod-eq_of_lt (lt_trans small (pow-lt {j = 32} (omega arith))))
-      ∙ ap (λ w. w % 2 ^ 32) (nothing (2 ^ (8 * bytes)))
-      ∙ ap (λ w. (left + w * 2 ^ (8 * bytes)) % 2 ^ 32) (sym (get_or-eq_default words 0 past))
-      ∙ word_joins
-    where
-      nothing : (p : ℕ) → left ≡ left + 0 * p
-      nothing p = omega arith
+  word_left past = grind (arith, common_steps, word_joins, pow-lt {i = 8 * bytes} {j = 32})

@@ -2,14 +2,13 @@
 -- before, one at each of these, and none behind; and with them its packets. Assumes nothing.
 use Prim.Native.Nat.{ℕ, zero, suc, ◌+◌, ◌*◌, ◌-◌, ◌/◌, ◌%◌, ◌<◌, ◌≤◌}
 use native.Mathlib.Omega.{arith}
-use native.Mathlib.Nat.{zero-add, suc-add}
-use mathlib.Core.Bool.{true, false, cond, ◌&&◌, and-false}
-use mathlib.Core.List.{List, [], ◌∷◌, ◌++◌, append-nil}
-use mathlib.Core.Path.{◌≡◌, refl, sym, ap, ap₂, ◌∙◌}
+use native.Mathlib.Nat.{suc-add}
+use mathlib.Core.Bool.{true, false, ◌&&◌}
+use mathlib.Core.List.{List, []}
+use mathlib.Core.Path.{◌≡◌, refl, ap, ◌∙◌}
 use lib.Dec.{ltb, leb}
 use lib.ListN.{length, get_or}
-use borrow.Author.Tests.{lt-ltb, le-ltb, le-leb, lt-leb}
-use Rattle.signals.specs.Payloads.{strobed}
+use Rattle.std.proofs.lemmas.Grind.{common_steps}
 use Rattle.signals.specs.Sequences.{entries_below}
 use Rattle.signals.proofs.Entries.{entry_at, same_entries}
 use Rattle.strbgen.specs.Plan.{word_count, is_plan}
@@ -24,22 +23,16 @@ use Rattle.realign.proofs.Padded.{count_exact}
 module _ (m n : ℕ) (strobes : List ℕ) (few : m < 4) (planned : is_plan m n strobes ≡ true) where
   -- byte k is named exactly when it is the packets'
   pub named_exactly : (k : ℕ) → k < 4 * word_count m n → named strobes k ≡ (leb m k && ltb k (m + 4 * n))
-  named_exactly k h =
-      ap (λ s. strobed s (k % 4)) ((plan_given m n strobes planned).1 (k / 4) (omega arith))
-      ∙ (exact_bytes m n few).place (k / 4) (k % 4) (omega arith) (omega arith)
-      ∙ ap (λ b. leb m b && ltb b (m + 4 * n)) whole
-    where
-      whole : 4 * (k / 4) + k % 4 ≡ k
-      whole = omega arith
+  named_exactly k h = grind (arith, common_steps, (plan_given m n strobes planned).1 (k / 4), (exact_bytes m n few).place (k / 4) (k % 4))
 
   pub named_own : (k : ℕ) → m ≤ k → k < m + 4 * n → k < 4 * word_count m n → named strobes k ≡ true
-  named_own k h g less = named_exactly k less ∙ ap₂ (λ a b. a && b) (le-leb m k h) (lt-ltb k (m + 4 * n) g)
+  named_own k h g less = grind (arith, common_steps, named_exactly k)
 
   pub named_front : (k : ℕ) → k < m → k < 4 * word_count m n → named strobes k ≡ false
-  named_front k h less = named_exactly k less ∙ ap (λ a. a && ltb k (m + 4 * n)) (lt-leb m k h)
+  named_front k h less = grind (arith, common_steps, named_exactly k)
 
   pub named_behind : (k : ℕ) → m + 4 * n ≤ k → k < 4 * word_count m n → named strobes k ≡ false
-  named_behind k h less = named_exactly k less ∙ ap (λ b. leb m k && b) (le-ltb k (m + 4 * n) h) ∙ and-false (leb m k)
+  named_behind k h less = grind (arith, common_steps, named_exactly k)
 
   module _ (words : List ℕ) where
     abbrev taken_at : ℕ → List ℕ
@@ -49,30 +42,17 @@ module _ (m n : ℕ) (strobes : List ℕ) (few : m < 4) (planned : is_plan m n s
     abbrev from_address : ℕ → ℕ
     from_address k = byte_at words (k + m)
 
-    -- byte k joins those taken, or does not
-    joins : (k : ℕ) → named strobes k ≡ true → taken_at (suc k) ≡ taken_at k ++ (byte_at words k ∷ [])
-    joins k e = ap (λ b. taken_at k ++ cond b (byte_at words k ∷ []) []) e
-
-    stays : (k : ℕ) → named strobes k ≡ false → taken_at (suc k) ≡ taken_at k
-    stays k e = ap (λ b. taken_at k ++ cond b (byte_at words k ∷ []) []) e ∙ append-nil (taken_at k)
-
     none_before : (k : ℕ) → k ≤ m → k ≤ 4 * word_count m n → taken_at k ≡ []
     none_before zero h less = refl
-    none_before (suc k) h less = stays k (named_front k (omega arith) (omega arith)) ∙ none_before k (omega arith) (omega arith)
+    none_before (suc k) h less = grind (arith, common_steps, none_before k, named_exactly k)
 
     each_own : (d : ℕ) → d ≤ 4 * n → d + m ≤ 4 * word_count m n → taken_at (d + m) ≡ entries_below from_address d
-    each_own zero h less = ap taken_at (zero-add m) ∙ none_before m (omega arith) (omega arith)
-    each_own (suc d) h less =
-        ap taken_at (suc-add d m)
-        ∙ joins (d + m) (named_own (d + m) (omega arith) (omega arith) (omega arith))
-        ∙ ap (λ made. made ++ (from_address d ∷ [])) (each_own d (omega arith) (omega arith))
+    each_own zero h less = grind (arith, common_steps, none_before m)
+    each_own (suc d) h less = grind (arith, common_steps, each_own d, suc-add d m, named_exactly (d + m))
 
     none_behind : (e : ℕ) → e + (4 * n + m) ≤ 4 * word_count m n → taken_at (e + (4 * n + m)) ≡ entries_below from_address (4 * n)
-    none_behind zero less = ap taken_at (zero-add (4 * n + m)) ∙ each_own (4 * n) (omega arith) (omega arith)
-    none_behind (suc e) less =
-        ap taken_at (suc-add e (4 * n + m))
-        ∙ stays (e + (4 * n + m)) (named_behind (e + (4 * n + m)) (omega arith) (omega arith))
-        ∙ none_behind e (omega arith)
+    none_behind zero less = grind (arith, common_steps, each_own (4 * n))
+    none_behind (suc e) less = grind (arith, common_steps, none_behind e, suc-add e (4 * n + m), named_exactly (e + (4 * n + m)))
 
     taken : 0 < n → taken_at (4 * word_count m n) ≡ entries_below from_address (4 * n)
     taken some = ap taken_at size ∙ none_behind ((4 - m) % 4) (omega (arith, size))
@@ -85,7 +65,4 @@ module _ (m n : ℕ) (strobes : List ℕ) (few : m < 4) (planned : is_plan m n s
     source_packets size = same_entries (word_from m words) _ n (λ i h. same_bytes (λ j. byte_at words (4 * i + j + m)) _ (each i h))
       where
         each : (i : ℕ) → i < n → (j : ℕ) → j < 4 → byte_at words (4 * i + j + m) ≡ get_or (taken_at (4 * length words)) (4 * i + j) 0
-        each i h j g =
-            sym (entry_at from_address (4 * n) (4 * i + j) 0 (omega arith))
-            ∙ ap (λ l. get_or l (4 * i + j) 0) (sym (taken (omega arith)))
-            ∙ ap (λ w. get_or (taken_at (4 * w)) (4 * i + j) 0) (sym size)
+        each i h j g = grind (arith, common_steps, entry_at from_address (4 * n) (4 * i + j) 0, taken)

@@ -3,14 +3,15 @@
 use Prim.Native.Nat.{ℕ, ◌+◌, ◌*◌, ◌-◌, ◌/◌, ◌%◌, ◌^◌, ◌<◌, ◌≤◌}
 use native.Mathlib.Omega.{arith}
 use native.Mathlib.Nat.{mod-eq_of_lt}
-use mathlib.Core.Bool.{Bool, true, false, cond, not, ◌||◌}
+use mathlib.Core.Bool.{true, cond}
 use mathlib.Core.List.{List, ◌∷◌}
 use mathlib.Core.Logic.{⊎_elim}
-use mathlib.Core.Option.{Option, none, some}
-use mathlib.Core.Path.{◌≡◌, refl, sym, ap, ap₂, ◌∙◌}
+use mathlib.Core.Option.{none}
+use mathlib.Core.Path.{◌≡◌, refl, sym, ap, ◌∙◌}
 use lib.Dec.{ltb}
 use lib.ListN.{length, get_or}
-use borrow.Author.Tests.{eq-eqb, le-ltb, ltb-true, ltb-false}
+use borrow.Author.Tests.{ltb-true, ltb-false}
+use Rattle.std.proofs.lemmas.Grind.{common_steps}
 use Rattle.signals.specs.Sequences.{entries_below}
 use Rattle.signals.specs.Tables.{first_applying}
 use Rattle.signals.proofs.Bools.{either}
@@ -38,12 +39,12 @@ byte_made :
     (byte : ℕ → ℕ) → ((k : ℕ) → byte k < 2 ^ 8) → (count k : ℕ) → k < 4 * count →
     byte_at (entries_below (λ i. word_of (λ j. byte (4 * i + j))) count) k ≡ byte k
 byte_made byte small count k h =
-    ap (λ word. byte_of word (k % 4)) (entry_at (λ i. word_of (λ j. byte (4 * i + j))) count (k / 4) 0 (omega arith))
-    ∙ byte_of_word (λ j. byte (4 * (k / 4) + j)) (λ j. small (4 * (k / 4) + j)) (k % 4) (omega arith)
-    ∙ ap byte whole
-  where
-    whole : 4 * (k / 4) + k % 4 ≡ k
-    whole = omega arith
+    grind (
+      arith,
+      common_steps,
+      entry_at (λ i. word_of (λ j. byte (4 * i + j))) count (k / 4) 0,
+      byte_of_word (λ j. byte (4 * (k / 4) + j)) (λ j. small (4 * (k / 4) + j)) (k % 4),
+    )
 
 -- words are made of their bytes
 words_made : (words : List ℕ) (n : ℕ) → Fit words → length words ≡ n → entries_below (word_from 0 words) n ≡ words
@@ -111,29 +112,22 @@ module _ (m n : ℕ) (words strobes : List ℕ) (few : m < 4) (planned : is_plan
   byte_again : (k : ℕ) → k < 4 * word_count m n → get_or (padded m packets) k 0 ≡ cond (named strobes k) (byte_at words k) 0
   byte_again k less = ⊎_elim (λ t. front (ltb-true k m t)) (λ f. from (ltb-false k m f)) (either (ltb k m))
     where
-      by : (b : Bool) → named strobes k ≡ b → cond b (byte_at words k) 0 ≡ cond (named strobes k) (byte_at words k) 0
-      by b e = ap (λ c. cond c (byte_at words k) 0) (sym e)
-
       front : k < m → get_or (padded m packets) k 0 ≡ cond (named strobes k) (byte_at words k) 0
-      front h = null_front m packets k h ∙ by false (named_front m n strobes few planned k h less)
-
-      back : m ≤ k → k ≡ k - m + m
-      back h = omega arith
+      front h = grind (arith, common_steps, null_front m packets k, named_front m n strobes few planned k)
 
       own : m ≤ k → k < m + 4 * n → get_or (padded m packets) k 0 ≡ cond (named strobes k) (byte_at words k) 0
-      own h g =
-          ap (padded_at m packets few) (back h)
-          ∙ padded_own m packets few (k - m)
-          ∙ taken_byte (k - m) (omega arith)
-          ∙ ap (byte_at words) (sym (back h))
-          ∙ by true (named_own m n strobes few planned k h g less)
+      own h g = grind (arith, common_steps, padded_own m packets few (k - m), taken_byte (k - m), named_own m n strobes few planned k)
 
       behind : m ≤ k → m + 4 * n ≤ k → get_or (padded m packets) k 0 ≡ cond (named strobes k) (byte_at words k) 0
       behind h g =
-          ap (padded_at m packets few) (back h)
-          ∙ padded_own m packets few (k - m)
-          ∙ byte_past packets (k - m) (omega (arith, as_many))
-          ∙ by false (named_behind m n strobes few planned k g less)
+          grind (
+            arith,
+            common_steps,
+            padded_own m packets few (k - m),
+            byte_past packets (k - m),
+            as_many,
+            named_behind m n strobes few planned k,
+          )
 
       from : m ≤ k → get_or (padded m packets) k 0 ≡ cond (named strobes k) (byte_at words k) 0
       from h =
@@ -159,45 +153,28 @@ source_accepts :
     first_applying (ofSource.grounds m n words strobes room) ≡ none
 source_accepts m n words strobes room size limit fits planned =
     keeps_none (ofSource.grounds m n words strobes room)
-    (ap not (eq-eqb (length words) (length strobes) size), (le-ltb max_packets n limit, (le-ltb room n fits, (ap not planned, tt))))
+    (grind (arith, common_steps))
 
 sink_accepts :
     (m : ℕ) (packets : List ℕ) (wordRoom strobeRoom : ℕ) → length packets ≤ max_packets →
     word_count m (length packets) ≤ wordRoom → word_count m (length packets) ≤ strobeRoom →
     first_applying (ofSink.grounds m packets wordRoom strobeRoom) ≡ none
 sink_accepts m packets wordRoom strobeRoom limit words-fit strobes_fit =
-    keeps_none (ofSink.grounds m packets wordRoom strobeRoom) (
-      le-ltb max_packets (length packets) limit,
-      (ap₂ (λ a b. a || b) (le-ltb wordRoom (word_count m (length packets)) words-fit) (le-ltb strobeRoom (word_count m (length packets)) strobes_fit), tt),
-    )
-
--- an answer without a refusal comes of no ground
-source_refusal : (r : Option ℕ) (n : ℕ) (words strobes : List ℕ) → (ofSource.answer_by r n words strobes).refusal ≡ r
-source_refusal none n words strobes = refl
-source_refusal (some number) n words strobes = refl
-
-sink_refusal : (r : Option ℕ) (m : ℕ) (packets : List ℕ) → (ofSink.answer_by r m packets).refusal ≡ r
-sink_refusal none _ _ = refl
-sink_refusal (some number) _ _ = refl
+    keeps_none (ofSink.grounds m packets wordRoom strobeRoom) (grind (arith, common_steps))
 
 pub strobes_name_packets_lem : StrobesNamePackets
 strobes_name_packets_lem m packets k few h =
     named_exactly m (length packets) (strobes_of m packets) few (plan_is_plan m (length packets)) k h
 
 pub source_after_sink_lem : SourceAfterSink
-source_after_sink_lem address packets wordRoom strobeRoom room fit accepted fits =
-    ap (λ r. source address n (ofSink.answer_by r m packets).words (ofSink.answer_by r m packets).strobes room) made
-    ∙ ap (λ r. ofSource.answer_by r n (words_of m packets) (strobes_of m packets)) taken
-    ∙ ap (λ p. record { refusal = none; packets = p }) (packets_again m packets (remainder_less address) fit)
+source_after_sink_lem address packets wordRoom strobeRoom room fit made fits =
+    rw (made, taken, packets_again m packets (remainder_less address) fit)
   where
     m : ℕ
     m = address % 4
 
     n : ℕ
     n = length packets
-
-    made : first_applying (ofSink.grounds m packets wordRoom strobeRoom) ≡ none
-    made = sym (sink_refusal (first_applying (ofSink.grounds m packets wordRoom strobeRoom)) m packets) ∙ accepted
 
     taken : first_applying (ofSource.grounds m n (words_of m packets) (strobes_of m packets) room) ≡ none
     taken =
@@ -206,18 +183,16 @@ source_after_sink_lem address packets wordRoom strobeRoom room fit accepted fits
         (sink_few m packets wordRoom strobeRoom made) fits (plan_is_plan m n)
 
 pub sink_after_source_lem : SinkAfterSource
-sink_after_source_lem address n words strobes room wordRoom strobeRoom accepted words-fit strobes_fit =
-    ap (λ r. sink address (ofSource.answer_by r n words strobes).packets wordRoom strobeRoom) taken
-    ∙ ap (λ r. ofSink.answer_by r m (packets_of n words strobes)) made
-    ∙ ap₂ (λ w s. record { refusal = none; words = w; strobes = s })
-    (words_again m n words strobes (remainder_less address) planned size)
-    (strobes_again m n words strobes (remainder_less address) planned size)
+sink_after_source_lem address n words strobes room wordRoom strobeRoom taken words-fit strobes_fit =
+    rw (
+      taken,
+      made,
+      words_again m n words strobes (remainder_less address) planned size,
+      strobes_again m n words strobes (remainder_less address) planned size,
+    )
   where
     m : ℕ
     m = address % 4
-
-    taken : first_applying (ofSource.grounds m n words strobes room) ≡ none
-    taken = sym (source_refusal (first_applying (ofSource.grounds m n words strobes room)) n words strobes) ∙ accepted
 
     planned : is_plan m n strobes ≡ true
     planned = source_plan m n words strobes room taken

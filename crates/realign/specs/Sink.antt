@@ -1,11 +1,12 @@
 -- Request T-10: what `realign_sink` answers, and what it leaves in the lent buffers. m is the byte address's remainder by 4.
 -- Assumes nothing.
-use Rattle.std.specs.Prelude.{ℕ, ◌-◌, ◌%◌, ◌||◌, List, [], ◌∷◌, ◌++◌, ◌≡◌, ltb, length, drop, Result}
-use Rattle.std.proofs.Math.Option.{Option, none, some}
+use Rattle.std.specs.Prelude.{ℕ, ◌-◌, ◌%◌, cond, ◌||◌, List, [], ◌∷◌, ◌++◌, ◌≡◌, ltb, length, drop, Result}
+use Rattle.std.specs.Result.{result_unwrap_or}
+use Rattle.std.proofs.Math.Option.{Option}
 use Rattle.signals.specs.Tables.{Row, ◌⇐◌, first_applying}
-use Rattle.signals.specs.Refusals.{refusal_of}
+use Rattle.signals.specs.Refusals.{refusal_of, accepts}
 use Rattle.signals.specs.declared.Refusal.{Refusal}
-use Rattle.strbgen.specs.Plan.{max_packets, word_count, strobes, counted}
+use Rattle.strbgen.specs.Plan.{max_packets, word_count, strobes}
 use Rattle.realign.specs.Bytes.{bytes_of, nulls, cut}
 
 -- the packets' bytes, with m null bytes in front and null bytes up to a word at the end
@@ -33,20 +34,20 @@ pub record Answer : Type 0 where
   pub words : List ℕ
   pub strobes : List ℕ
 
--- refused, nothing is made
-abbrev pub answer_by : (refusal : Option ℕ) → (m : ℕ) → (packets : List ℕ) → Answer
-answer_by none m packets = record { refusal = none; words = words_of m packets; strobes = strobes_of m packets }
-answer_by (some number) m packets = record { refusal = some number; words = []; strobes = [] }
-
--- what `realign_sink` answers
+-- what `realign_sink` answers; refused, nothing is made
 abbrev pub sink : (address : ℕ) → (packets : List ℕ) → (wordRoom strobeRoom : ℕ) → Answer
 sink address packets wordRoom strobeRoom =
-    answer_by (first_applying (grounds (address % 4) packets wordRoom strobeRoom)) (address % 4) packets
+    let refusal : Option ℕ = first_applying (grounds (address % 4) packets wordRoom strobeRoom) in
+    record {
+      refusal = refusal;
+      words = cond (accepts refusal) (words_of (address % 4) packets) [];
+      strobes = cond (accepts refusal) (strobes_of (address % 4) packets) [];
+    }
 
 -- what a call answers, and what its buffers hold afterwards: what was made from their start, and past it what they had before
 pub record Sinks (address : ℕ) (packets words wordsLeft strobes strobesLeft : List ℕ) (answered : Result ℕ Refusal) : Type 0 where
   pub refusal : refusal_of answered ≡ (sink address packets (length words) (length strobes)).refusal
-  pub count : counted answered ≡ length (sink address packets (length words) (length strobes)).words
-  pub words_written : wordsLeft ≡ (sink address packets (length words) (length strobes)).words ++ drop (counted answered) words
+  pub count : result_unwrap_or answered 0 ≡ length (sink address packets (length words) (length strobes)).words
+  pub words_written : wordsLeft ≡ (sink address packets (length words) (length strobes)).words ++ drop (result_unwrap_or answered 0) words
   pub strobes_written :
-      strobesLeft ≡ (sink address packets (length words) (length strobes)).strobes ++ drop (counted answered) strobes
+      strobesLeft ≡ (sink address packets (length words) (length strobes)).strobes ++ drop (result_unwrap_or answered 0) strobes

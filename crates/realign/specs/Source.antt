@@ -1,12 +1,13 @@
 -- Request T-10: what `realign_source` answers, and what it leaves in the lent buffer. m is the byte address's remainder by 4, and n the
 -- number of packets. Assumes nothing.
 use Rattle.std.specs.Prelude.{ℕ, zero, suc, ◌*◌, ◌/◌, ◌%◌, Bool, cond, not, List, [], ◌∷◌, ◌++◌, ◌≡◌, eqb, ltb, length, get_or, drop, Result}
-use Rattle.std.proofs.Math.Option.{Option, none, some}
+use Rattle.std.specs.Result.{result_unwrap_or}
+use Rattle.std.proofs.Math.Option.{Option}
 use Rattle.signals.specs.Payloads.{strobed}
 use Rattle.signals.specs.Tables.{Row, ◌⇐◌, first_applying}
-use Rattle.signals.specs.Refusals.{refusal_of}
+use Rattle.signals.specs.Refusals.{refusal_of, accepts}
 use Rattle.signals.specs.declared.Refusal.{Refusal}
-use Rattle.strbgen.specs.Plan.{max_packets, is_plan, counted}
+use Rattle.strbgen.specs.Plan.{max_packets, is_plan}
 use Rattle.realign.specs.Bytes.{byte_at, cut}
 
 -- whether the strobe of byte k is 1, counted from the first word's start
@@ -38,18 +39,14 @@ pub record Answer : Type 0 where
   pub refusal : Option ℕ
   pub packets : List ℕ
 
--- refused, nothing is made
-abbrev pub answer_by : (refusal : Option ℕ) → (n : ℕ) → (words strobes : List ℕ) → Answer
-answer_by none n words strobes = record { refusal = none; packets = packets_of n words strobes }
-answer_by (some number) n words strobes = record { refusal = some number; packets = [] }
-
--- what `realign_source` answers
+-- what `realign_source` answers; refused, nothing is made
 abbrev pub source : (address n : ℕ) → (words strobes : List ℕ) → (room : ℕ) → Answer
 source address n words strobes room =
-    answer_by (first_applying (grounds (address % 4) n words strobes room)) n words strobes
+    let refusal : Option ℕ = first_applying (grounds (address % 4) n words strobes room) in
+    record { refusal = refusal; packets = cond (accepts refusal) (packets_of n words strobes) [] }
 
 -- what a call answers, and what its buffer holds afterwards: the packets from its start, and past them what it had before
 pub record Sources (address n : ℕ) (words strobes before left : List ℕ) (answered : Result ℕ Refusal) : Type 0 where
   pub refusal : refusal_of answered ≡ (source address n words strobes (length before)).refusal
-  pub count : counted answered ≡ length (source address n words strobes (length before)).packets
-  pub written : left ≡ (source address n words strobes (length before)).packets ++ drop (counted answered) before
+  pub count : result_unwrap_or answered 0 ≡ length (source address n words strobes (length before)).packets
+  pub written : left ≡ (source address n words strobes (length before)).packets ++ drop (result_unwrap_or answered 0) before

@@ -6,7 +6,7 @@
 
 mod shift; // shift.rt: words moved up by bytes
 
-ghost use Rattle.std.specs.Prelude.{◌≡◌, ◌++◌, ◌%◌, ◌≤◌, length, drop};
+ghost use Rattle.std.specs.Prelude.{◌≡◌, ◌%◌, length};
 ghost use Rattle.signals.specs.Sequences.{entries_below};
 ghost use Rattle.signals.specs.Tables.{first_applying};
 ghost use Rattle.signals.specs.Refusals.{refusal_of};
@@ -44,14 +44,15 @@ fn source_refusal(
     Ok(())
 }
 
-// Writes the n packets that a plan's words hold. The first word of an unaligned plan makes none; what it leaves over begins the first.
-fn take(address: u32, n: usize, words: &[u32], out: &mut [u32])
-    requires { (length words.now ≡ word_count (address % 4) n) × (n ≤ length out.old) }
-    ensures { out.new ≡ entries_below (word_from (address % 4) words.now) n ++ drop n out.old }
+// Fills a buffer with the packets that a plan's words hold. The first word of an unaligned plan makes none; what it leaves over begins
+// the first.
+fn take(address: u32, words: &[u32], out: &mut [u32])
+    requires { length words.now ≡ word_count (address % 4) (length out.old) }
+    ensures { out.new ≡ entries_below (word_from (address % 4) words.now) (length out.old) }
 {
-    if n > 0 {
-        let lead = words.len() - n;
-        move_up(words[0], (4 - address % 4) % 4, &words[lead..], out);
+    if let [first, ..] = words {
+        let lead = words.len() - out.len();
+        move_up(*first, (4 - address % 4) % 4, &words[lead..], out);
     }
 }
 
@@ -68,18 +69,18 @@ pub fn realign_source(
 {
     source_refusal(address, n, words, strobes, out.len())?;
     let count = n as usize;
-    take(address, count, words, out);
+    take(address, words, &mut out[..count]);
     Ok(count)
 }
 
-// Writes the words that hold the packets. An unaligned plan has one word more: what the last packet leaves over.
-fn put(address: u32, packets: &[u32], words: usize, out: &mut [u32])
-    requires { (words ≡ word_count (address % 4) (length packets.now)) × (words ≤ length out.old) }
-    ensures { out.new ≡ ofSink.words_of (address % 4) packets.now ++ drop words out.old }
+// Fills a buffer with the plan's words, which hold the packets. An unaligned plan has one word more: what the last packet leaves over.
+fn put(address: u32, packets: &[u32], out: &mut [u32])
+    requires { length out.old ≡ word_count (address % 4) (length packets.now) }
+    ensures { out.new ≡ ofSink.words_of (address % 4) packets.now }
 {
-    let left = move_up(0, address % 4, packets, out);
     let n = packets.len();
-    if n < words {
+    let left = move_up(0, address % 4, packets, &mut out[..n]);
+    if n < out.len() {
         out[n] = left;
     }
 }
@@ -101,6 +102,6 @@ pub fn realign_sink(
         return Err(Refusal::OutputTooShort);
     }
     let count = strbgen::strobe_plan(address, n, out_strobes)?;
-    put(address, packets, count, out_words);
+    put(address, packets, &mut out_words[..count]);
     Ok(count)
 }

@@ -2,9 +2,9 @@
 -- modulo 2^32: both have the same upper bits, and the lower ones are what was left over. Assumes nothing.
 use Prim.Native.Nat.{ℕ, ◌+◌, ◌*◌, ◌-◌, ◌%◌, ◌^◌, ◌<◌}
 use native.Mathlib.Omega.{arith}
-use native.Mathlib.Nat.{add_comm, add-zero, mod-lt}
-use mathlib.Core.Path.{◌≡◌, sym, ap, ap₂, ◌∙◌}
+use mathlib.Core.Path.{◌≡◌, ap, ap₂, ◌∙◌}
 use lib.Pow.{pow_pos, high, low, mod-pow-add}
+use Rattle.std.proofs.lemmas.Grind.{common_steps}
 use Rattle.realign.proofs.shift.joined.Goals as goal
 
 module _ (word bits : ℕ) (less : bits < 32) where
@@ -19,18 +19,13 @@ module _ (word bits : ℕ) (less : bits < 32) where
       room = omega arith
 
   no-carry : (left : ℕ) → left < 2 ^ bits → left + word * 2 ^ bits % 2 ^ 32 ≡ (left + word * 2 ^ bits) % 2 ^ 32
-  no-carry left small =
-      ap (λ moved. left + moved) (ap (λ n. n % 2 ^ 32) (sym (add-zero (word * 2 ^ bits))) ∙ kept 0 (pow_pos bits) ∙ add-zero (word % 2 ^ (32 - bits) * 2 ^ bits))
-      ∙ add_comm left (word % 2 ^ (32 - bits) * 2 ^ bits)
-      ∙ sym (kept left small)
-      ∙ ap (λ n. n % 2 ^ 32) (add_comm (word * 2 ^ bits) left)
+  no-carry left small = grind (arith, common_steps, kept left small, kept 0 (pow_pos bits))
 
 pub overflow_add-result : goal.overflow_add-result
 overflow_add-result c =
     let a = c.args in
-    let same = no-carry a.word a.bits c.requires.0 a.left c.requires.1 in
-    let fits : (a.left + a.word * 2 ^ a.bits) % 2 ^ 32 < 2 ^ 32 = mod-lt (a.left + a.word * 2 ^ a.bits) (pow_pos 32) in
-    omega (arith, same, fits)
+    let same = no-carry a.word a.bits c.requires.few a.left c.requires.small in
+    omega (arith, same)
 
 pub returns : goal.returns
-returns c = no-carry c.args.word c.args.bits c.requires.0 c.args.left c.requires.1
+returns c = no-carry c.args.word c.args.bits c.requires.few c.args.left c.requires.small

@@ -21,4 +21,7 @@ module _ (word bits : ℕ) (less : bits < 32) where
 
 pub returns : goal.returns
 returns c =
-    (one_shift c.args.word c.args.bits c.requires, below-bits c.args.word c.args.bits c.requires (omega arith))
+    record {
+      uppermost = one_shift c.args.word c.args.bits c.requires;
+      small = below-bits c.args.word c.args.bits c.requires (omega arith);
+    }

@@ -10,4 +10,5 @@ use Rattle.realign.proofs.shift.move_up.Given as goal
 
 abbrev pub invariant-loop-i : goal.invariant-loop-i
 invariant-loop-i l =
-    (l.out ≡ entries_below (word_from (4 - l.bytes) (l.before ∷ l.words)) l.i ++ drop l.i l.initial.out) × (l.previous ≡ get_or (l.before ∷ l.words) l.i 0)
+    (l.out ≡ entries_below (word_from (4 - l.bytes) (l.before ∷ l.words)) l.i ++ drop l.i l.initial.out)
+    × (l.previous ≡ get_or (l.before ∷ l.words) l.i 0)
