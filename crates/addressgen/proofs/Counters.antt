@@ -1,11 +1,11 @@
 -- The counters by the number of the iteration, from the start state: c0 counts i % d0 and c1 counts i / d0 % d1, each from 1. A counter
 -- that has reached its length starts again just where the remainder does, and with it the quotient gains 1. Assumes nothing.
-use Rattle.std.proofs.Common.{◌≡◌, ℕ, zero, suc, ◌+◌, ◌*◌, ◌/◌, ◌%◌, ◌^◌, ◌<◌, ◌≤◌, true, false, cond, not, ◌||◌, ltb, ◌⊎◌, sym, ap, ◌∙◌, inl, inr, ⊎_elim, mod-lt, mod-eq_of_lt, arith, ltb-false, ltb-true}
+use Rattle.std.proofs.Common.{◌≡◌, ℕ, zero, suc, ◌+◌, ◌*◌, ◌/◌, ◌%◌, ◌^◌, ◌<◌, ◌≤◌, true, ap, ◌∙◌, mod-lt, mod-eq_of_lt, arith}
+use Rattle.std.proofs.lemmas.Grind.{common_steps}
 use native.Mathlib.Nat.{zero-mod, zero-div, mod-add-div, div-eq_of_lt, add-mul-div_left, add-mul-mod_self_left}
-use Rattle.signals.proofs.Bools.{either}
 use Rattle.addressgen.specs.declared.Settings.{Settings}
 use Rattle.addressgen.specs.declared.State.{State}
-use Rattle.addressgen.specs.Stepping.{◌⊕◌, bit0, bit1, start, next, after}
+use Rattle.addressgen.specs.Stepping.{bit0, bit1, start, next, after}
 
 -- the remainder and the quotient of q in line r of length d
 pub remainder_in : (d q r : ℕ) → q < d → (q + d * r) % d ≡ q
@@ -17,78 +17,28 @@ quotient_in d q r h = add-mul-div_left q r (omega arith) ∙ ap (λ (k : ℕ). k
 module _ (d i : ℕ) where
   -- within a line one on is one on in it
   pub same_line : suc (i % d) < d → (suc i % d ≡ suc (i % d)) × (suc i / d ≡ i / d)
-  same_line h =
-      let e : suc i ≡ suc (i % d) + d * (i / d) = omega (arith, mod-add-div i d) in
-      (ap (λ (k : ℕ). k % d) e ∙ remainder_in d (suc (i % d)) (i / d) h, ap (λ (k : ℕ). k / d) e ∙ quotient_in d (suc (i % d)) (i / d) h)
+  same_line h = grind (arith, common_steps, remainder_in d (suc (i % d)) (i / d) h, quotient_in d (suc (i % d)) (i / d) h, mod-add-div i d)
 
   -- at the end of a line the next one begins
   pub next_line : 0 < d → d ≤ suc (i % d) → (suc i % d ≡ 0) × (suc i / d ≡ suc (i / d))
   next_line p h =
-      let last : suc (i % d) ≡ d = omega (arith, mod-lt i p) in
-      let e : suc i ≡ 0 + d * suc (i / d) = omega (arith, mod-add-div i d, last) in
-      (ap (λ (k : ℕ). k % d) e ∙ remainder_in d 0 (suc (i / d)) p, ap (λ (k : ℕ). k / d) e ∙ quotient_in d 0 (suc (i / d)) p)
+      grind (arith, common_steps, remainder_in d 0 (suc (i / d)) p, quotient_in d 0 (suc (i / d)) p, mod-add-div i d, mod-lt i p)
 
--- a counter that gains 1 below its length d, and else starts again
-abbrev counted : ℕ → ℕ → ℕ
-counted d c = cond (ltb c d) (c ⊕ 1) 1
+module _ (s : Settings) (more : bit0 s ≡ true) (p : 0 < s.d0) (fits : s.d0 < 2 ^ 32) where
+  -- c0 counts by itself: its length is below 2^32, so that it does not wrap
+  c0_on : (t : State) (i : ℕ) → t.c0 ≡ i % s.d0 + 1 → (next s t).c0 ≡ suc i % s.d0 + 1
+  c0_on t i e = grind (arith, common_steps, same_line s.d0 i, next_line s.d0 i p)
 
--- a counter of remainders from 1 goes on as one: its length is below 2^32, so that it does not wrap
-counts_on : (d i c : ℕ) → 0 < d → d < 2 ^ 32 → c ≡ i % d + 1 → counted d c ≡ suc i % d + 1
-counts_on d i c p fits e = ⊎_elim within at_end_lem (either (ltb c d))
-  where
-    within : ltb c d ≡ true → counted d c ≡ suc i % d + 1
-    within t =
-        let h = ltb-true c d t in
-        let on = same_line d i (omega arith) in
-        rw t (mod-eq_of_lt {n = c + 1} {m = 2 ^ 32} (omega arith) ∙ omega (arith, on.0))
+  pub c0_at : (i : ℕ) → (after s start i).c0 ≡ i % s.d0 + 1
+  c0_at zero = omega (arith, zero-mod s.d0)
+  c0_at (suc i) = c0_on (after s start i) i (c0_at i)
 
-    at_end_lem : ltb c d ≡ false → counted d c ≡ suc i % d + 1
-    at_end_lem f =
-        let h = ltb-false c d f in
-        let on = next_line d i p (omega arith) in
-        rw f (omega (arith, on.0))
-
-module _ (s : Settings) (more : bit0 s ≡ true) (p : 0 < s.d0) where
-  -- c0 counts by itself
-  c0_next : (t : State) → (next s t).c0 ≡ counted s.d0 t.c0
-  c0_next t =
-      ⊎_elim (λ (e : ltb t.c0 s.d0 ≡ true). simp (e, more))
-      (λ (e : ltb t.c0 s.d0 ≡ false). starts_again e (either (ltb t.c1 s.d1 || not (bit1 s))))
-      (either (ltb t.c0 s.d0))
-    where
-      starts_again :
-          ltb t.c0 s.d0 ≡ false →
-          ((ltb t.c1 s.d1 || not (bit1 s)) ≡ true) ⊎ ((ltb t.c1 s.d1 || not (bit1 s)) ≡ false) →
-          (next s t).c0 ≡ counted s.d0 t.c0
-      starts_again e (inl f) = simp (e, f, more)
-      starts_again e (inr f) = simp (e, f, more)
-
-  -- c1 stays until c0 has reached its length, and then counts
-  c1_stays : (t : State) → ltb t.c0 s.d0 ≡ true → (next s t).c1 ≡ t.c1
-  c1_stays t e = simp (e, more)
-
-  c1_next : bit1 s ≡ true → (t : State) → ltb t.c0 s.d0 ≡ false → (next s t).c1 ≡ counted s.d1 t.c1
-  c1_next all t e =
-      ⊎_elim (λ (f : ltb t.c1 s.d1 ≡ true). simp (e, f, more, all))
-      (λ (f : ltb t.c1 s.d1 ≡ false). simp (e, f, more, all))
-      (either (ltb t.c1 s.d1))
-
-  pub c0_at : s.d0 < 2 ^ 32 → (i : ℕ) → (after s start i).c0 ≡ i % s.d0 + 1
-  c0_at fits zero = omega (arith, zero-mod s.d0)
-  c0_at fits (suc i) =
-      c0_next (after s start i) ∙ counts_on s.d0 i (after s start i).c0 p fits (c0_at fits i)
-
-  module _ (all : bit1 s ≡ true) (q : 0 < s.d1) (fits : s.d1 < 2 ^ 32) where
+  module _ (all : bit1 s ≡ true) (q : 0 < s.d1) (fits_too : s.d1 < 2 ^ 32) where
+    -- c1 stays until c0 has reached its length, and then counts
     c1_on : (t : State) (i : ℕ) → t.c0 ≡ i % s.d0 + 1 → t.c1 ≡ i / s.d0 % s.d1 + 1 → (next s t).c1 ≡ suc i / s.d0 % s.d1 + 1
     c1_on t i e f =
-        ⊎_elim
-        (λ h. let less = ltb-true t.c0 s.d0 h in
-        c1_stays t h ∙ f ∙ sym (ap (λ (line : ℕ). line % s.d1 + 1) (same_line s.d0 i (omega arith)).1))
-        (λ h. let ended = ltb-false t.c0 s.d0 h in
-        c1_next all t h ∙ counts_on s.d1 (i / s.d0) t.c1 q fits f
-        ∙ sym (ap (λ (line : ℕ). line % s.d1 + 1) (next_line s.d0 i p (omega arith)).1))
-        (either (ltb t.c0 s.d0))
+        grind (arith, common_steps, same_line s.d0 i, next_line s.d0 i p, same_line s.d1 (i / s.d0), next_line s.d1 (i / s.d0) q)
 
-    pub c1_at : s.d0 < 2 ^ 32 → (i : ℕ) → (after s start i).c1 ≡ i / s.d0 % s.d1 + 1
-    c1_at fits0 zero = rw (zero-div s.d0) (omega (arith, zero-mod s.d1))
-    c1_at fits0 (suc i) = c1_on (after s start i) i (c0_at fits0 i) (c1_at fits0 i)
+    pub c1_at : (i : ℕ) → (after s start i).c1 ≡ i / s.d0 % s.d1 + 1
+    c1_at zero = rw (zero-div s.d0) (omega (arith, zero-mod s.d1))
+    c1_at (suc i) = c1_on (after s start i) i (c0_at i) (c1_at i)

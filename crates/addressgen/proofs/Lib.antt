@@ -1,5 +1,4 @@
 pub mod Stepping
-pub mod Products
 pub mod Running
 pub mod Resuming
 pub mod Counters

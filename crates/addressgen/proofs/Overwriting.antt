@@ -1,8 +1,8 @@
 -- A store is refused when, and only when, it advances in place: a dimension that its clause names advances, and one that an iteration
 -- advances along is named by its clause. A load has no such ground. Assumes nothing.
-use Rattle.std.proofs.Common.{◌≡◌, Bool, true, false, ◌||◌, eqb, ⊎_elim, eq-eqb, eqb-true}
-use mathlib.Core.Bool.{or-true}
-use Rattle.signals.proofs.Bools.{either, both}
+use Rattle.std.proofs.Common.{◌≡◌, Bool, true, ◌||◌, eqb, arith, eq-eqb, eqb-true}
+use Rattle.std.proofs.lemmas.Grind.{common_steps}
+use Rattle.signals.proofs.Bools.{both}
 use Rattle.addressgen.specs.declared.Settings.{Settings}
 use Rattle.addressgen.specs.Stepping.{Dimension, dimension0, dimension1, dimension2}
 use Rattle.addressgen.specs.Overwriting.{stride, advances, advances_in_place, overwrites_itself}
@@ -11,16 +11,10 @@ use Rattle.addressgen.proofs.Advancing.{advances_exactly_lem}
 
 -- a test that some dimension passes
 find : (test : Dimension → Bool) → (test dimension0 || test dimension1 || test dimension2) ≡ true → (d : Dimension) × (test d ≡ true)
-find test e =
-    ⊎_elim (λ t. (dimension0, t))
-    (λ (f : test dimension0 ≡ false).
-    ⊎_elim (λ t. (dimension1, t)) (λ (g : test dimension1 ≡ false). (dimension2, rw (f, g) at e)) (either (test dimension1)))
-    (either (test dimension0))
+find test e = grind (arith, common_steps)
 
 found : (test : Dimension → Bool) (d : Dimension) → test d ≡ true → (test dimension0 || test dimension1 || test dimension2) ≡ true
-found test dimension0 e = rw e
-found test dimension1 e = rw (e, or-true (test dimension0))
-found test dimension2 e = rw (e, or-true (test dimension0 || test dimension1))
+found test d e = grind (arith, common_steps)
 
 -- a store that overwrites itself, by the dimension that advances in place
 pub in_place : (s : Settings) → overwrites_itself s ≡ true → (d : Dimension) × (advances s d ≡ true) × (stride s d ≡ 0)

@@ -1,12 +1,12 @@
 -- A refused store yields the start address again: where a dimension with stride 0 first advances, the lower ones start again, its own
 -- address gains nothing, and the higher ones have not advanced. Assumes nothing.
 use Rattle.std.proofs.Common.{◌≡◌, ℕ, zero, suc, ◌*◌, ◌<◌, Bool, true, false, ltb, [], ◌∷◌, sym, refl, ◌∙◌, mul-le-mul_left, arith}
+use Rattle.std.proofs.lemmas.Grind.{common_steps}
 use mathlib.Core.Option.{some}
 use Rattle.signals.specs.Tables.{◌⇐◌, first_applying}
-use Rattle.signals.proofs.Bools.{clash}
 use Rattle.addressgen.specs.declared.Settings.{Settings}
 use Rattle.addressgen.specs.declared.State.{State}
-use Rattle.addressgen.specs.Stepping.{◌⊕◌, bit0, bit1, start, Dimension, dimension0, dimension1, dimension2, advanced, after}
+use Rattle.addressgen.specs.Stepping.{bit0, bit1, start, Dimension, dimension0, dimension1, dimension2, advanced, after}
 use Rattle.addressgen.specs.Overwriting.{stride, advances, overwrites_itself}
 use Rattle.addressgen.specs.Run.{bad_mask, grounds}
 use Rattle.addressgen.specs.Meaning.{Legal, along_at, YieldsTwice, RefusedYieldsTwice}
@@ -21,21 +21,12 @@ come t dimension0 = t.a0
 come t dimension1 = t.a1
 come t dimension2 = t.a2
 
-gains_0 : (a stride : ℕ) → a ≡ 0 → stride ≡ 0 → a ⊕ stride ≡ 0
-gains_0 a stride e f = rw (e, f)
-
 module _ (s : Settings) where
   -- a dimension at 0 stays there if it advances by nothing
   stays : (t : State) (d along : Dimension) → (along ≡ d → stride s d ≡ 0) → come t d ≡ 0 → come (advanced s t along) d ≡ 0
-  stays t dimension0 dimension0 z h = gains_0 t.a0 s.s0 h (z refl)
-  stays t dimension0 dimension1 z h = refl
-  stays t dimension0 dimension2 z h = refl
-  stays t dimension1 dimension0 z h = h
-  stays t dimension1 dimension1 z h = gains_0 t.a1 s.s1 h (z refl)
-  stays t dimension1 dimension2 z h = refl
-  stays t dimension2 dimension0 z h = h
-  stays t dimension2 dimension1 z h = h
-  stays t dimension2 dimension2 z h = gains_0 t.a2 s.s2 h (z refl)
+  stays t dimension0 along z h = grind (arith, common_steps)
+  stays t dimension1 along z h = grind (arith, common_steps)
+  stays t dimension2 along z h = grind (arith, common_steps)
 
   rests : (d : Dimension) (n : ℕ) → ((j : ℕ) → j < n → along_at s j ≡ d → stride s d ≡ 0) → come (after s start n) d ≡ 0
   rests dimension0 zero each = refl
@@ -58,17 +49,14 @@ module _ (s : Settings) where
   module _ (legal : Legal s) where
     -- dimension 0 first advances in iteration 0, dimension 1 at the end of the first line, dimension 2 at that of the first plane
     repeats0 : s.s0 ≡ 0 → 1 < s.total → along_at s 0 ≡ dimension0 → YieldsTwice s
-    repeats0 z h first = again 0 h zeros
-      where
-        zeros : (d : Dimension) → come (after s start 1) d ≡ 0
-        zeros dimension0 = rests dimension0 1 (λ j g e. z)
-        zeros dimension1 = rw first
-        zeros dimension2 = rw first
+    repeats0 z h first = again 0 h (λ d. grind (arith, common_steps, rests dimension0 1))
 
     repeats1 :
         s.s1 ≡ 0 → bit0 s ≡ true → s.d0 < s.total → (bit1 s ≡ true → 1 < s.d1) → along_at s (line_end s 0) ≡ dimension1 →
         YieldsTwice s
-    repeats1 z more h several end = again (line_end s 0) (omega (arith, line_made s legal more)) zeros
+    repeats1 z more h several end =
+        again (line_end s 0) (omega (arith, line_made s legal more))
+        (λ d. grind (arith, common_steps, rests dimension1 (suc (line_end s 0)) (λ j g e. z), rests dimension2 (suc (line_end s 0)) later))
       where
         -- the first plane does not end within its first line
         later : (j : ℕ) → j < suc (line_end s 0) → along_at s j ≡ dimension2 → s.s2 ≡ 0
@@ -76,20 +64,12 @@ module _ (s : Settings) where
             let plane = reaches2 s legal j e in
             absurd (omega (arith, line_made s legal more, mul-le-mul_left s.d0 (several plane.1)))
 
-        zeros : (d : Dimension) → come (after s start (suc (line_end s 0))) d ≡ 0
-        zeros dimension0 = rw end
-        zeros dimension1 = rests dimension1 (suc (line_end s 0)) (λ j g e. z)
-        zeros dimension2 = rests dimension2 (suc (line_end s 0)) later
-
     repeats2 :
         s.s2 ≡ 0 → bit0 s ≡ true → bit1 s ≡ true → s.d0 * s.d1 < s.total → along_at s (plane_end s) ≡ dimension2 →
         YieldsTwice s
-    repeats2 z more all h end = again (plane_end s) (omega (arith, plane_made s legal more all)) zeros
-      where
-        zeros : (d : Dimension) → come (after s start (suc (plane_end s))) d ≡ 0
-        zeros dimension0 = rw end
-        zeros dimension1 = rw end
-        zeros dimension2 = rests dimension2 (suc (plane_end s)) (λ j g e. z)
+    repeats2 z more all h end =
+        again (plane_end s) (omega (arith, plane_made s legal more all))
+        (λ d. grind (arith, common_steps, rests dimension2 (suc (plane_end s)) (λ j g e. z)))
 
     repeats : (d : Dimension) → advances s d ≡ true → stride s d ≡ 0 → YieldsTwice s
     repeats dimension0 e z = let a = asked0 s legal e in repeats0 z a.0 (along0_at s legal a.1)
@@ -99,11 +79,7 @@ module _ (s : Settings) where
 -- 11 is given where its own ground applies and that of 10 does not
 eleven_first : (mask overwriting state room : Bool) →
     first_applying {N = ℕ} (10 ⇐ mask ∷ 11 ⇐ overwriting ∷ 6 ⇐ state ∷ 7 ⇐ room ∷ []) ≡ some 11 → (mask ≡ false) × (overwriting ≡ true)
-eleven_first true overwriting state room e = absurd (let h : ◌≡◌ {A = ℕ} 10 11 = cc in omega arith)
-eleven_first false true state room e = (refl, refl)
-eleven_first false false true room e = absurd (let h : ◌≡◌ {A = ℕ} 6 11 = cc in omega arith)
-eleven_first false false false true e = absurd (let h : ◌≡◌ {A = ℕ} 7 11 = cc in omega arith)
-eleven_first false false false false e = absurd (clash cc)
+eleven_first mask overwriting state room e = grind (arith, common_steps)
 
 pub refused_yields_twice_lem : RefusedYieldsTwice
 refused_yields_twice_lem s t n room fits0 fits1 e =

@@ -1,9 +1,9 @@
 -- A run resumed from the state given back, and a run from the start state. An accepted run has legal settings and a state
 -- whose ov is at most total, and so has the state that it gives back; the rest are the laws of the iterations. Assumes nothing.
-use Rattle.std.proofs.Common.{◌≡◌, ℕ, ◌+◌, ◌-◌, ◌≤◌, min, false, eqb, leb, sym, refl, ap, ◌∙◌, ⊎_elim, arith, ltb-false, le-ltb, eq-eqb, ne_eqb, leb-false, leb-true}
+use Rattle.std.proofs.Common.{◌≡◌, ℕ, ◌+◌, ◌-◌, ◌≤◌, min, false, eqb, leb, sym, refl, ap, ◌∙◌, arith, ltb-false}
+use Rattle.std.proofs.lemmas.Grind.{common_steps}
 use mathlib.Core.Option.{none}
 use Rattle.signals.specs.Tables.{first_applying, NoneIn}
-use Rattle.signals.proofs.Bools.{either}
 use Rattle.signals.proofs.Tables.{none_keeps}
 use Rattle.addressgen.specs.declared.Settings.{Settings}
 use Rattle.addressgen.specs.declared.State.{State}
@@ -23,7 +23,7 @@ module _ (s : Settings) (t : State) (n room : ℕ) where
   ran_accepted :
       bad_mask s ≡ false → overwrites_itself s ≡ false → t.ov ≤ s.total → n ≤ room →
       ran_of s t n room ≡ ran_for s t (iterations s t n)
-  ran_accepted e o h g = simp (e, o, le-ltb s.total t.ov h, le-ltb room n g)
+  ran_accepted e o h g = grind (arith, common_steps)
 
 -- the smaller of n + m and what is left: first of n, then of m and what is left after that
 split_count : (n m total ov : ℕ) → min (n + m) (total - ov) ≡ min n (total - ov) + min m (total - (ov + min n (total - ov)))
@@ -70,10 +70,7 @@ runs_resume_lem s t n m room room' room'' e h g =
 
 -- the smaller of n and total is total exactly when n reaches it
 reaches : (n total ov : ℕ) → ov ≡ 0 + min n (total - 0) → eqb ov total ≡ leb total n
-reaches n total ov e =
-    ⊎_elim (λ t. eq-eqb ov total (omega (arith, leb-true total n t)) ∙ sym t)
-    (λ f. ne_eqb ov total (λ q. omega (arith, leb-false total n f)) ∙ sym f)
-    (either (leb total n))
+reaches n total ov e = grind (arith, common_steps)
 
 pub runs_finish_lem : RunsFinish
 runs_finish_lem s n room e o h =

@@ -4,7 +4,7 @@
 #![tactic(auto)]
 
 ghost use Rattle.std.specs.Prelude.{◌≡◌, ◌-◌, ◌<◌, ◌≤◌, length};
-ghost use Rattle.addressgen.specs.Stepping.{◌⊕◌, bit0, bit1, start, address, next, after, addresses};
+ghost use Rattle.addressgen.specs.Stepping.{bit0, bit1, start, address, next, after, addresses};
 ghost use Rattle.addressgen.specs.Overwriting.{overwrites_itself};
 ghost use Rattle.addressgen.specs.Run.{bad_mask, iterations, Generated};
 
@@ -17,7 +17,7 @@ pub const MAX_MASK: u8 = 3;
 const COUNT_FROM: u32 = 1;
 
 // Base address, lengths of dimensions 0 and 1, how many iterations there are, strides, the dimension mask, and whether this is a store
-// or a load.
+// or a load. As C lays them out and writes them: any number may be the mask, which is tested (refusal 10), and a flag tells a store.
 #[repr(C)]
 #[derive(Clone, Copy)]
 pub struct Settings {
@@ -32,7 +32,7 @@ pub struct Settings {
     pub store: bool,
 }
 
-// How far each dimension has come, the counters of dimensions 0 and 1, and how many iterations were made.
+// How far each dimension has come, the counters of dimensions 0 and 1, and how many iterations were made. As C lays them out.
 #[repr(C)]
 #[derive(Clone, Copy)]
 pub struct State {
@@ -52,13 +52,6 @@ pub struct Ran {
     pub done: bool,
 }
 
-// A sum as the generator's registers hold it: it wraps at 2^32.
-fn plus(x: u32, y: u32) -> u32
-    ensures { result ≡ x ⊕ y }
-{
-    x.wrapping_add(y)
-}
-
 impl State {
     // The state before the first iteration.
     pub fn start() -> State
@@ -76,7 +69,8 @@ impl State {
 }
 
 impl Settings {
-    // Mask bit 0: whether addresses run in more than one dimension.
+    // Mask bit 0: whether addresses run in more than one dimension. Both bits have a reader of one expression, as their definitions are:
+    // one reader over the bit's place would be no plainer.
     pub fn bit0(self) -> bool
         ensures { result ≡ bit0 self }
     {
@@ -90,6 +84,7 @@ impl Settings {
         self.mask / 2 % 2 == 1
     }
 
+    // Whether the mask has more than two bits, or asks for a length that is 0.
     pub fn bad_mask(self) -> bool
         ensures { result ≡ bad_mask self }
     {
@@ -104,54 +99,66 @@ impl Settings {
     {
         let bit0 = self.bit0();
         let bit1 = self.bit1();
-        let plane = self.d0 as u64 * self.d1 as u64;
+        let plane = u64::from(self.d0) * u64::from(self.d1);
         let advances0 = self.total > 1 && (!bit0 || self.d0 > 1);
         let advances1 = bit0 && self.total > self.d0 && !(bit1 && self.d1 == 1);
-        let advances2 = bit0 && bit1 && self.total as u64 > plane;
+        let advances2 = bit0 && bit1 && u64::from(self.total) > plane;
         self.store
             && (advances0 && self.s0 == 0 || advances1 && self.s1 == 0 || advances2 && self.s2 == 0)
     }
+}
 
+// A generator on its way: its settings, and the state before the next iteration. What is asked of the state is no invariant, but another
+// fact in each of its functions: one iteration to come, none too many, as many as there are words.
+#[derive(Clone, Copy)]
+struct Generator {
+    settings: Settings,
+    state: State,
+}
+
+impl Generator {
     // The address that the next iteration yields.
-    fn address(self, state: State) -> u32
-        ensures { result ≡ address self state }
+    fn address(self) -> u32
+        ensures { result ≡ address self.settings self.state }
     {
-        let along0 = plus(self.base, state.a0);
-        let along1 = plus(along0, state.a1);
-        if !self.bit0() {
+        let Generator { settings, state } = self;
+        let along0 = settings.base.wrapping_add(state.a0);
+        let along1 = along0.wrapping_add(state.a1);
+        if !settings.bit0() {
             along0
-        } else if !self.bit1() {
+        } else if !settings.bit1() {
             along1
         } else {
-            plus(along1, state.a2)
+            along1.wrapping_add(state.a2)
         }
     }
 
     // The state after the next iteration.
-    fn next(self, state: State) -> State
-        requires { state.ov < self.total }
-        ensures { result ≡ next self state }
+    fn next(self) -> State
+        requires { self.state.ov < self.settings.total }
+        ensures { result ≡ next self.settings self.state }
     {
+        let Generator { settings, state } = self;
         let ov = state.ov + 1;
-        if state.c0 < self.d0 || !self.bit0() {
+        if state.c0 < settings.d0 || !settings.bit0() {
             State {
-                a0: plus(state.a0, self.s0),
-                c0: plus(state.c0, 1),
+                a0: state.a0.wrapping_add(settings.s0),
+                c0: state.c0.wrapping_add(1),
                 ov,
                 ..state
             }
-        } else if state.c1 < self.d1 || !self.bit1() {
+        } else if state.c1 < settings.d1 || !settings.bit1() {
             State {
                 a0: 0,
-                a1: plus(state.a1, self.s1),
+                a1: state.a1.wrapping_add(settings.s1),
                 c0: COUNT_FROM,
-                c1: plus(state.c1, 1),
+                c1: state.c1.wrapping_add(1),
                 ov,
                 ..state
             }
         } else {
             State {
-                a2: plus(state.a2, self.s2),
+                a2: state.a2.wrapping_add(settings.s2),
                 ov,
                 ..State::start()
             }
@@ -159,28 +166,29 @@ impl Settings {
     }
 
     // How many iterations are made when up to n are asked for.
-    fn iterations(self, state: State, n: usize) -> usize
-        requires { state.ov ≤ self.total }
-        ensures { result ≡ iterations self state n }
+    fn iterations(self, n: usize) -> usize
+        requires { self.state.ov ≤ self.settings.total }
+        ensures { result ≡ iterations self.settings self.state n }
     {
-        n.min((self.total - state.ov) as usize)
+        n.min((self.settings.total - self.state.ov) as usize)
+    }
+
+    // Makes an iteration for each word of the buffer: writes their addresses, and gives the state afterwards.
+    fn fill(mut self, out: &mut [u32]) -> State
+        requires { length out.old ≤ self.settings.total - self.state.ov }
+        ensures state { result ≡ after self.settings self.state (length out.old) }
+        ensures written { out.new ≡ addresses self.settings self.state (length out.old) }
+    {
+        for word in out.iter_mut() {
+            *word = self.address();
+            self.state = self.next();
+        }
+        self.state
     }
 }
 
-// Makes an iteration for each word of the buffer: writes their addresses, and gives the state afterwards.
-fn fill(settings: Settings, state: State, out: &mut [u32]) -> State
-    requires { length out.old ≤ settings.total - state.ov }
-    ensures { (result ≡ after settings state (length out.old)) × (out.new ≡ addresses settings state (length out.old)) }
-{
-    let mut current = state;
-    for word in out.iter_mut() {
-        *word = settings.address(current);
-        current = settings.next(current);
-    }
-    current
-}
-
-// Makes up to n iterations and writes the address that each yields.
+// Makes up to n iterations and writes the address that each yields. The first two tests are those of `Legal` in `address_at`, which has
+// why they stand twice.
 pub fn run(settings: Settings, state: State, n: usize, out: &mut [u32]) -> Result<Ran, Refusal>
     ensures { Generated settings state n out.old out.new result }
 {
@@ -196,8 +204,9 @@ pub fn run(settings: Settings, state: State, n: usize, out: &mut [u32]) -> Resul
     if out.len() < n {
         return Err(Refusal::OutputTooShort);
     }
-    let count = settings.iterations(state, n);
-    let state = fill(settings, state, &mut out[..count]);
+    let generator = Generator { settings, state };
+    let count = generator.iterations(n);
+    let state = generator.fill(&mut out[..count]);
     let done = state.ov == settings.total;
     Ok(Ran { count, state, done })
 }

@@ -14,4 +14,4 @@ returns c =
     let within : c.iterations-count.result ≤ length a.out.now = omega arith in
     let filled = rw (length-take-le c.iterations-count.result a.out.now within) at c.fill-state.ensures in
     accepted_run a.settings a.state a.n a.out.now (simp (mask, advancing, legal, room))
-    _ c.iterations-count.ensures _ filled.0 _ (rw filled.1)
+    _ c.iterations-count.ensures _ filled.state _ (rw filled.written)
