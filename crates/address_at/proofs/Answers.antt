@@ -1,20 +1,21 @@
 -- What the two calls promise, in their two cases: accepted, where no ground applies, and refused, by the number that is given.
 -- Assumes nothing.
-use Rattle.std.proofs.Common.{◌≡◌, ℕ, ◌≤◌, false, List, ◌++◌, length, take, drop, Ok, Err, sym, ◌∙◌, ap}
-use Rattle.std.proofs.lemmas.List.{length-take-le, take_at}
+use Rattle.std.proofs.Common.{◌≡◌, ℕ, ◌≤◌, false, ltb, List, [], ◌∷◌, ◌++◌, length, take, drop, Ok, Err, sym, ◌∙◌, ap, le-ltb}
+use Rattle.std.proofs.lemmas.List.{length-take-le}
 use mathlib.Core.Option.{none, some}
-use Rattle.signals.specs.Tables.{first_applying}
+use Rattle.signals.specs.Tables.{Row, ◌⇐◌, first_applying}
 use Rattle.signals.specs.Refusals.{number_of}
 use Rattle.signals.specs.Sequences.{entries_below}
 use Rattle.signals.specs.declared.Refusal.{Refusal}
 use Rattle.signals.proofs.Tables.{none_keeps}
-use Rattle.signals.proofs.Writing.{length_entries}
 use Rattle.addressgen.specs.declared.Settings.{Settings}
+use Rattle.addressgen.specs.Overwriting.{overwrites_itself}
 use Rattle.addressgen.specs.Run.{bad_mask}
+use Rattle.address_at.specs.declared.legal.Legal.{Legal}
 use Rattle.address_at.specs.ByNumber.{address_of}
 use Rattle.address_at.specs.AddressAt.{answer_of, answer_by}
 use Rattle.address_at.specs.AddressAt as ofAddress
-use Rattle.address_at.specs.Overlap.{met_below, Lists}
+use Rattle.address_at.specs.Overlap.{max_iterations, met_below, Lists}
 use Rattle.address_at.specs.Overlap as ofOverlap
 
 module _ (s : Settings) (i : ℕ) where
@@ -33,12 +34,39 @@ module _ (first second : Settings) (room : ℕ) (e : first_applying (ofOverlap.g
   pub second_mask : bad_mask second ≡ false
   second_mask = (none_keeps (ofOverlap.grounds first second room) e).1.1.1.0
 
--- a part of an array that its addresses were written to has them at its start
+-- settings that are legal give neither 10 nor 11
+pub passes :
+    (legal : Legal) (s : Settings) (more : List (Row ℕ)) → legal.settings ≡ s →
+    first_applying (10 ⇐ bad_mask s ∷ 11 ⇐ overwrites_itself s ∷ more) ≡ first_applying more
+passes legal s more e = rw (← e) (simp (legal.mask, legal.strides))
+
+-- the grounds that are left where both have few enough iterations, and one or both are legal
+module _ (first second : Settings) (room : ℕ) (few : first.total ≤ max_iterations) (few_too : second.total ≤ max_iterations) where
+  abbrev pub behind_second : List (Row ℕ)
+  behind_second = 7 ⇐ ltb room first.total ∷ []
+
+  abbrev pub behind_first : List (Row ℕ)
+  behind_first = 10 ⇐ bad_mask second ∷ 11 ⇐ overwrites_itself second ∷ behind_second
+
+  pub both_few :
+      first_applying (ofOverlap.grounds first second room) ≡ first_applying (10 ⇐ bad_mask first ∷ 11 ⇐ overwrites_itself first ∷ behind_first)
+  both_few = simp (le-ltb max_iterations first.total few, le-ltb max_iterations second.total few_too)
+
+  pub first_legal :
+      (legal : Legal) → legal.settings ≡ first →
+      first_applying (ofOverlap.grounds first second room) ≡ first_applying behind_first
+  first_legal legal e = both_few ∙ passes legal first behind_first e
+
+  pub all_pass :
+      (legal other : Legal) → legal.settings ≡ first → other.settings ≡ second → first.total ≤ room →
+      first_applying (ofOverlap.grounds first second room) ≡ none
+  all_pass legal other e f fits = first_legal legal e ∙ passes other second behind_second f ∙ simp (le-ltb room first.total fits)
+
+-- as many addresses as a part of an array has room for
 pub its_addresses :
-    (entry : ℕ → ℕ) (n : ℕ) (before written rest : List ℕ) → written ≡ entries_below entry (length (take n before)) →
-    n ≤ length before → take n (written ++ rest) ≡ entries_below entry n
-its_addresses entry n before written rest e h =
-    rw (e, length-take-le n before h) (take_at (entries_below entry n) rest n (length_entries entry n))
+    (entry : ℕ → ℕ) (n : ℕ) (room written : List ℕ) → written ≡ entries_below entry (length (take n room)) →
+    n ≤ length room → written ≡ entries_below entry n
+its_addresses entry n room written e h = e ∙ ap (entries_below entry) (length-take-le n room h)
 
 module _ (first second : Settings) (before : List ℕ) where
   pub has_listed :

@@ -1,11 +1,12 @@
--- The address by number is that of the iteration that is stepped to: an iteration along a dimension takes one step of it, starts those before
--- it again and leaves those behind it, and so do the quotients and remainders when the number gains 1. Assumes nothing.
+-- The address by number is that of the iteration that is stepped to: an iteration along a dimension takes one step of it, starts those
+-- before it again and leaves those behind it, and so do the quotients and remainders when the number gains 1. Assumes nothing.
 use Prim.Native.Nat.{ℕ, zero, suc, ◌+◌, ◌*◌, ◌/◌, ◌%◌, ◌^◌, ◌≤◌}
 use native.Mathlib.Nat.{zero-mod, zero-div, zero-mul, suc-mul, div-div-eq-div-mul}
 use native.Mathlib.Omega.{arith}
-use mathlib.Core.Bool.{true, false, false≢true}
+use mathlib.Core.Bool.{true, false}
 use mathlib.Core.Logic.{⊎_elim}
-use mathlib.Core.Path.{◌≡◌, refl, sym, ◌∙◌, ap}
+use mathlib.Core.Path.{◌≡◌, refl, sym}
+use Rattle.std.proofs.lemmas.Grind.{common_steps}
 use Rattle.signals.proofs.Bools.{either}
 use Rattle.addressgen.specs.declared.Settings.{Settings}
 use Rattle.addressgen.specs.declared.State.{State}
@@ -34,15 +35,6 @@ Moves dimension2 dimension2 n m = m ≡ suc n
 abbrev gone : ℕ → ℕ → ℕ
 gone steps stride = steps * stride % 2 ^ 32
 
-one_more : (a n m stride : ℕ) → a ≡ gone n stride → m ≡ suc n → a ⊕ stride ≡ gone m stride
-one_more a n m stride e f = rw f (omega (arith, e, suc-mul n stride))
-
-starts_again : (m stride : ℕ) → m ≡ 0 → 0 ≡ gone m stride
-starts_again m stride f = rw (f, zero-mul stride)
-
-stays : (a n m stride : ℕ) → a ≡ gone n stride → m ≡ n → a ≡ gone m stride
-stays a n m stride e f = rw f e
-
 -- sums that are taken modulo 2^32 one after another are taken modulo 2^32 at the end
 joins : (along x y a : ℕ) → along % 2 ^ 32 ≡ x % 2 ^ 32 → a ≡ y % 2 ^ 32 → along ⊕ a ≡ (x + y) % 2 ^ 32
 joins along x y a e f = omega (arith, e, f)
@@ -52,15 +44,9 @@ module _ (s : Settings) where
   moves :
       (t : State) (along d : Dimension) (n m : ℕ) → Moves along d n m → come t d ≡ gone n (stride s d) →
       come (advanced s t along) d ≡ gone m (stride s d)
-  moves t dimension0 dimension0 n m f e = one_more t.a0 n m s.s0 e f
-  moves t dimension0 dimension1 n m f e = stays t.a1 n m s.s1 e f
-  moves t dimension0 dimension2 n m f e = stays t.a2 n m s.s2 e f
-  moves t dimension1 dimension0 n m f e = starts_again m s.s0 f
-  moves t dimension1 dimension1 n m f e = one_more t.a1 n m s.s1 e f
-  moves t dimension1 dimension2 n m f e = stays t.a2 n m s.s2 e f
-  moves t dimension2 dimension0 n m f e = starts_again m s.s0 f
-  moves t dimension2 dimension1 n m f e = starts_again m s.s1 f
-  moves t dimension2 dimension2 n m f e = one_more t.a2 n m s.s2 e f
+  moves t dimension0 d n m f e = grind (arith, common_steps, zero-mul, suc-mul)
+  moves t dimension1 d n m f e = grind (arith, common_steps, zero-mul, suc-mul)
+  moves t dimension2 d n m f e = grind (arith, common_steps, zero-mul, suc-mul)
 
   -- steps by number that begin with none and move as the iterations do are those that are gone
   module _
@@ -68,9 +54,9 @@ module _ (s : Settings) where
       (each : (i : ℕ) (d : Dimension) → Moves (along_at s i) d (steps i d) (steps (suc i) d))
     where
       goes : (i : ℕ) (d : Dimension) → come (after s start i) d ≡ gone (steps i d) (stride s d)
-      goes zero dimension0 = starts_again (steps 0 dimension0) s.s0 (none dimension0)
-      goes zero dimension1 = starts_again (steps 0 dimension1) s.s1 (none dimension1)
-      goes zero dimension2 = starts_again (steps 0 dimension2) s.s2 (none dimension2)
+      goes zero dimension0 = rw (none dimension0, zero-mul s.s0)
+      goes zero dimension1 = rw (none dimension1, zero-mul s.s1)
+      goes zero dimension2 = rw (none dimension2, zero-mul s.s2)
       goes (suc i) d = moves (after s start i) (along_at s i) d (steps i d) (steps (suc i) d) (each i d) (goes i d)
 
 -- the steps of iteration i in one dimension, in lines of d0, and in planes of d1 lines
@@ -93,16 +79,10 @@ module _ (s : Settings) (legal : Legal s) where
   -- in one dimension each iteration advances along it
   module _ (one : bit0 s ≡ false) where
     one_moves : (i : ℕ) (along : Dimension) → along_at s i ≡ along → (d : Dimension) → Moves along d (in_one i d) (in_one (suc i) d)
-    one_moves i dimension0 e dimension0 = refl
-    one_moves i dimension0 e dimension1 = refl
-    one_moves i dimension0 e dimension2 = refl
-    one_moves i dimension1 e d = absurd (false≢true (sym one ∙ (at_line_end s legal i e).0))
-    one_moves i dimension2 e d = absurd (false≢true (sym one ∙ (at_plane_end s legal i e).0))
+    one_moves i along e d = grind (arith, common_steps, at_line_end s legal i, at_plane_end s legal i)
 
     one_none : (d : Dimension) → in_one 0 d ≡ 0
-    one_none dimension0 = refl
-    one_none dimension1 = refl
-    one_none dimension2 = refl
+    one_none d = grind (arith, common_steps)
 
     in_one_lem : (i : ℕ) → address_of s i ≡ address_at s i
     in_one_lem i =
@@ -122,18 +102,10 @@ module _ (s : Settings) (legal : Legal s) where
 
     module _ (two : bit1 s ≡ false) where
       two_moves : (i : ℕ) (along : Dimension) → along_at s i ≡ along → (d : Dimension) → Moves along d (in_lines d0 i d) (in_lines d0 (suc i) d)
-      two_moves i dimension0 e dimension0 = (goes_on_in_line i e).0
-      two_moves i dimension0 e dimension1 = (goes_on_in_line i e).1
-      two_moves i dimension0 e dimension2 = refl
-      two_moves i dimension1 e dimension0 = (begins_line i (at_line_end s legal i e).1).0
-      two_moves i dimension1 e dimension1 = (begins_line i (at_line_end s legal i e).1).1
-      two_moves i dimension1 e dimension2 = refl
-      two_moves i dimension2 e d = absurd (false≢true (sym two ∙ (at_plane_end s legal i e).1))
+      two_moves i along e d = grind (arith, common_steps, goes_on_in_line i, begins_line i, at_line_end s legal i, at_plane_end s legal i)
 
       two_none : (d : Dimension) → in_lines d0 0 d ≡ 0
-      two_none dimension0 = zero-mod d0
-      two_none dimension1 = zero-div d0
-      two_none dimension2 = refl
+      two_none d = grind (arith, common_steps)
 
       in_lines_lem : (i : ℕ) → address_of s i ≡ address_at s i
       in_lines_lem i =
@@ -149,24 +121,20 @@ module _ (s : Settings) (legal : Legal s) where
       begins_plane line h = next_line d1 line (d1_positive s legal more three) h
 
       three_moves : (i : ℕ) (along : Dimension) → along_at s i ≡ along → (d : Dimension) → Moves along d (in_planes d0 d1 i d) (in_planes d0 d1 (suc i) d)
-      three_moves i dimension0 e dimension0 = (goes_on_in_line i e).0
-      three_moves i dimension0 e dimension1 = ap (λ (line : ℕ). line % d1) (goes_on_in_line i e).1
-      three_moves i dimension0 e dimension2 = ap (λ (line : ℕ). line / d1) (goes_on_in_line i e).1
-      three_moves i dimension1 e dimension0 = (begins_line i (at_line_end s legal i e).1).0
-      three_moves i dimension1 e dimension1 =
-          ap (λ (line : ℕ). line % d1) (begins_line i (at_line_end s legal i e).1).1 ∙ (same_line d1 (i / d0) ((at_line_end s legal i e).2 three)).0
-      three_moves i dimension1 e dimension2 =
-          ap (λ (line : ℕ). line / d1) (begins_line i (at_line_end s legal i e).1).1 ∙ (same_line d1 (i / d0) ((at_line_end s legal i e).2 three)).1
-      three_moves i dimension2 e dimension0 = (begins_line i (at_plane_end s legal i e).2).0
-      three_moves i dimension2 e dimension1 =
-          ap (λ (line : ℕ). line % d1) (begins_line i (at_plane_end s legal i e).2).1 ∙ (begins_plane (i / d0) (at_plane_end s legal i e).3).0
-      three_moves i dimension2 e dimension2 =
-          ap (λ (line : ℕ). line / d1) (begins_line i (at_plane_end s legal i e).2).1 ∙ (begins_plane (i / d0) (at_plane_end s legal i e).3).1
+      three_moves i along e d =
+          grind (
+            arith,
+            common_steps,
+            goes_on_in_line i,
+            begins_line i,
+            at_line_end s legal i,
+            at_plane_end s legal i,
+            same_line d1 (i / d0),
+            begins_plane (i / d0),
+          )
 
       three_none : (d : Dimension) → in_planes d0 d1 0 d ≡ 0
-      three_none dimension0 = zero-mod d0
-      three_none dimension1 = rw (zero-div d0) (zero-mod d1)
-      three_none dimension2 = rw (zero-div d0) (zero-div d1)
+      three_none d = grind (arith, common_steps, zero-div d0, zero-mod d1, zero-div d1)
 
       in_planes_lem : (i : ℕ) → address_of s i ≡ address_at s i
       in_planes_lem i =

@@ -1,8 +1,9 @@
 -- Request T-14: what `address_at` answers. Assumes nothing.
-use Rattle.std.specs.Prelude.{ℕ, List, [], ◌∷◌, Result, Ok, Err, leb}
-use Rattle.std.proofs.Math.Option.{Option, none, some}
+use Rattle.std.specs.Prelude.{ℕ, cond, List, [], ◌∷◌, Result, leb}
+use Rattle.std.specs.Result.{result_unwrap_or}
+use Rattle.std.proofs.Math.Option.{Option}
 use Rattle.signals.specs.Tables.{Row, ◌⇐◌, first_applying}
-use Rattle.signals.specs.Refusals.{number_of}
+use Rattle.signals.specs.Refusals.{refusal_of, accepts}
 use Rattle.signals.specs.declared.Refusal.{Refusal}
 use Rattle.addressgen.specs.declared.Settings.{Settings}
 use Rattle.addressgen.specs.Overwriting.{overwrites_itself}
@@ -19,14 +20,10 @@ pub record Answer : Type 0 where
 
 -- the code's answer in these numbers; refused, the address is 0
 abbrev pub answer_of : Result ℕ Refusal → Answer
-answer_of (Ok address) = record { refusal = none; address = address }
-answer_of (Err why) = record { refusal = some (number_of why); address = 0 }
+answer_of answer = record { refusal = refusal_of answer; address = result_unwrap_or answer 0 }
 
--- an address, unless there is a refusal: then 0
-abbrev pub answer_to : (address : ℕ) → (refusal : Option ℕ) → Answer
-answer_to address none = record { refusal = none; address = address }
-answer_to address (some number) = record { refusal = some number; address = 0 }
-
--- what is answered for iteration i by an engine, which gives the address by the settings and the number
+-- what is answered for iteration i by an engine, which gives the address by the settings and the number; refused, the address is 0
 abbrev pub answer_by : (engine : Settings → ℕ → ℕ) → Settings → ℕ → Answer
-answer_by engine s i = answer_to (engine s i) (first_applying (grounds s i))
+answer_by engine s i =
+    let refusal : Option ℕ = first_applying (grounds s i) in
+    record { refusal = refusal; address = cond (accepts refusal) (engine s i) 0 }

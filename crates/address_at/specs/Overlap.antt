@@ -1,8 +1,9 @@
 -- Request T-14: what `overlap` answers, and what it leaves in the lent buffer. Assumes nothing.
-use Rattle.std.specs.Prelude.{ℕ, zero, suc, Bool, cond, ◌||◌, List, [], ◌∷◌, ◌++◌, ◌≡◌, eqb, ltb, length, drop, Result, Ok, Err}
-use Rattle.std.proofs.Math.Option.{Option, none, some}
+use Rattle.std.specs.Prelude.{ℕ, zero, suc, Bool, cond, ◌||◌, List, [], ◌∷◌, ◌++◌, ◌≡◌, eqb, ltb, length, drop, Result}
+use Rattle.std.specs.Result.{result_unwrap_or}
+use Rattle.std.proofs.Math.Option.{Option}
 use Rattle.signals.specs.Tables.{Row, ◌⇐◌, first_applying}
-use Rattle.signals.specs.Refusals.{refusal_of, any_of}
+use Rattle.signals.specs.Refusals.{refusal_of, accepts, any_of}
 use Rattle.signals.specs.Sequences.{entries_below}
 use Rattle.signals.specs.declared.Refusal.{Refusal}
 use Rattle.addressgen.specs.declared.Settings.{Settings}
@@ -44,19 +45,13 @@ grounds first second room =
 
 -- what is listed: nothing when refused
 abbrev pub listed : (engine : Settings → ℕ → ℕ) → Settings → Settings → (refusal : Option ℕ) → List ℕ
-listed engine first second none = shared engine first second
-listed engine first second (some number) = []
-
--- how many are listed, by the code's answer
-abbrev pub count_of : Result ℕ Refusal → ℕ
-count_of (Ok count) = count
-count_of (Err why) = 0
+listed engine first second refusal = cond (accepts refusal) (shared engine first second) []
 
 -- the refusal, if there is one, in document 01's numbers; how many are listed; and what the buffer holds afterwards: those, and past
 -- them what it had before
 pub record Lists (engine : Settings → ℕ → ℕ) (first second : Settings) (before left : List ℕ) (r : Result ℕ Refusal) : Type 0 where
   pub refusal : refusal_of r ≡ first_applying (grounds first second (length before))
-  pub count : count_of r ≡ length (listed engine first second (first_applying (grounds first second (length before))))
+  pub count : result_unwrap_or r 0 ≡ length (listed engine first second (first_applying (grounds first second (length before))))
   pub written :
       left ≡
-      listed engine first second (first_applying (grounds first second (length before))) ++ drop (count_of r) before
+      listed engine first second (first_applying (grounds first second (length before))) ++ drop (result_unwrap_or r 0) before

@@ -43,7 +43,9 @@ pub fn overlap(first: Settings, second: Settings, out: &mut [u32]) -> Result<usi
     if out.len() < first.settings.total as usize {
         return Err(Refusal::OutputTooShort);
     }
-    let mut others = [0; MAX_ITERATIONS];
-    second.write_all(&mut others[..total]);
-    Ok(first.list(&others[..total], out))
+    // Room for the most, since nothing here takes memory from a heap.
+    let mut room = [0; MAX_ITERATIONS];
+    let others = &mut room[..total];
+    second.write_all(others);
+    Ok(first.list(others, out))
 }

@@ -10,4 +10,4 @@ returns-in_err-legal c =
     let p = err_from_is_err_and c.from_residual.result c.from_residual.ensures.1 in
     let a = c.args in
     rw (p.1, p.2)
-    (not_addressed a.settings a.i _ (c.in_err-legal.ensures (8 ⇐ leb a.settings.total a.i ∷ [])))
+    (not_addressed a.settings a.i _ (c.in_err-legal.ensures.refused (8 ⇐ leb a.settings.total a.i ∷ [])))

@@ -6,4 +6,5 @@ use Rattle.address_at.proofs.legal.Legal.list.Given as goal
 
 abbrev pub invariant-loop-i : goal.invariant-loop-i
 invariant-loop-i l =
-    (l.count ≡ length (met_below (address_of l.self.settings) l.others l.i)) × (l.out ≡ met_below (address_of l.self.settings) l.others l.i ++ drop l.count l.initial.out)
+    (l.count ≡ length (met_below (address_of l.self.settings) l.others l.i))
+    × (l.out ≡ met_below (address_of l.self.settings) l.others l.i ++ drop l.count l.initial.out)
