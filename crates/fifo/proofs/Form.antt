@@ -16,6 +16,7 @@ use Rattle.fifo.specs.declared.Place.{Place}
 use Rattle.fifo.specs.declared.Fifo.{Fifo}
 use Rattle.fifo.specs.Queue.{Queue, ill, well, ready_of, capacity, max_depth, legal_place, empty, ready, rest, is_any, oldest, shown, shown_as, when, next}
 use Rattle.fifo.specs.Ring.{ring, wrapped, pointers_of, ready_in, queue_of, in_range, trusted, EveryPlace}
+use Rattle.fifo.specs.Turn.{popped}
 use Rattle.fifo.proofs.Depths.{depth_most, capacity_least, capacity_most}
 use Rattle.fifo.proofs.Places.{place_is_remainder_lem, wrapped_below}
 use Rattle.fifo.proofs.Slots.{ring_length, ring_oldest, ring_at, store_joins_end}
@@ -26,7 +27,6 @@ pub record Form (f : Fifo) : Type 0 where
   pub count : f.count ≤ capacity f.place
 
 pub form_of : (f : Fifo) → in_range f ≡ true → Form f
-unfolding in_range
 form_of f e =
     let a = both (legal_place f.place) _ e in
     let b = both (ltb f.oldest f.place.depth) _ a.1 in
@@ -40,13 +40,6 @@ sum_once f form count most = omega (arith, form.oldest, capacity_most f.place)
 pub depth_within : (f : Fifo) → in_range f ≡ true → f.place.depth ≤ max_depth
 depth_within f e = depth_most f.place (form_of f e).place
 
-pub oldest_within : (f : Fifo) → in_range f ≡ true → f.oldest < max_depth
-oldest_within f e = let form = form_of f e in omega (arith, form.oldest, depth_most f.place form.place)
-
-pub count_within : (f : Fifo) → in_range f ≡ true → f.count ≤ max_depth
-count_within f e =
-    let form = form_of f e in omega (arith, form.count, capacity_most f.place, depth_most f.place form.place)
-
 pub every_place_lem : EveryPlace
 every_place_lem f e =
     let form = form_of f e in
@@ -57,16 +50,12 @@ every_place_lem f e =
       held = λ i below. ring_at f.slots f.place.depth f.oldest f.count i form.oldest below;
     }
 
--- a place up to the end has its slot in the ring, and so within the slots
+-- a place up to the end has its slot in the ring
 pub place_below : (f : Fifo) (count : ℕ) → in_range f ≡ true → count ≤ f.count → wrapped f.place.depth (f.oldest + count) < f.place.depth
 place_below f count e most =
     let form = form_of f e in wrapped_below f.place.depth f.oldest count (sum_once f form count (omega (arith, form.count)))
 
-pub place_within : (f : Fifo) (count : ℕ) → in_range f ≡ true → count ≤ f.count → wrapped f.place.depth (f.oldest + count) < max_depth
-place_within f count e most = omega (arith, place_below f count e most, depth_within f e)
-
 in_range_lem : (f : Fifo) → Form f → in_range f ≡ true
-unfolding in_range
 in_range_lem f form = rw (form.place, lt-ltb _ _ form.oldest, le-leb _ _ form.count)
 
 pub trusted_in_lem : (f : Fifo) → in_range f ≡ true → trusted f ≡ well (queue_of f)
@@ -136,7 +125,8 @@ count_0_empty place oldest slots legal within =
 abbrev pub after_pop : Fifo → Fifo
 after_pop f = record { place = f.place; count = f.count - 1; oldest = wrapped f.place.depth (f.oldest + 1); slots = f.slots }
 
-pub pop_leaves_rest : (f : Fifo) → in_range f ≡ true → 0 < f.count → trusted (after_pop f) ≡ well (record { place = f.place; held = rest (queue_of f).held })
+pub pop_leaves_rest : (f : Fifo) → in_range f ≡ true → 0 < f.count
+    → trusted (after_pop f) ≡ well (record { place = f.place; held = rest (queue_of f).held })
 pop_leaves_rest f e some =
     let form = form_of f e in
     trusted_form (after_pop f)
@@ -150,7 +140,7 @@ pop_leaves_rest f e some =
 
 -- where the sink is not ready or nothing is held, the queue is as it was
 pub no_pop : (f : Fifo) (sink : Bool) → in_range f ≡ true → (sink && ltb 0 f.count) ≡ false
-    → trusted f ≡ well (record { place = f.place; held = cond sink (rest (queue_of f).held) (queue_of f).held })
+    → trusted f ≡ well (popped (queue_of f) sink)
 no_pop f sink e none =
     trusted_in_lem f e
     ∙ ap (λ (l : List Payload). well (record { place = f.place; held = l }))
@@ -177,40 +167,38 @@ push_joins_end f p e wide room =
     ∙ ap (λ (l : List Payload). well (record { place = f.place; held = l }))
     (rw (add-one f.count) (store_joins_end f.slots f.place.depth f.oldest f.count p (omega arith) form.oldest (omega arith)))
 
--- the queue from which the oldest has left where the sink is ready
-abbrev pub pop_queue : Queue → Bool → Queue
-pop_queue q sink = record { place = q.place; held = cond sink (rest q.held) q.held }
+module _ (f left : Fifo) (sink : Bool) (pops : trusted left ≡ well (popped (queue_of f) sink)) where
+  -- the numbers stay in range, and the queue in the slots is the popped one
+  popped_well : (in_range left ≡ true) × (queue_of left ≡ popped (queue_of f) sink)
+  popped_well = trusted_well left (popped (queue_of f) sink) pops
 
-module _ (f popped : Fifo) (sink : Bool) (pops : trusted popped ≡ well (pop_queue (queue_of f) sink)) where
-  -- the numbers stay in range
-  pub pop_in_range : in_range popped ≡ true
-  pop_in_range = (trusted_well popped (pop_queue (queue_of f) sink) pops).0
+  pub pop_in_range : in_range left ≡ true
+  pop_in_range = popped_well.0
 
-  -- the place stays
-  pub pop_place : popped.place ≡ f.place
-  pop_place = ap (λ (q : Queue). q.place) (trusted_well popped (pop_queue (queue_of f) sink) pops).1
+  pub pop_place : left.place ≡ f.place
+  pop_place = ap (λ (q : Queue). q.place) popped_well.1
 
   -- what had room has room
-  pop_keeps_room : ready (queue_of f) ≡ true → ready (queue_of popped) ≡ true
-  pop_keeps_room room = ap ready (trusted_well popped (pop_queue (queue_of f) sink) pops).1 ∙ by_sink (queue_of f) sink room
+  pop_keeps_room : ready (queue_of f) ≡ true → ready (queue_of left) ≡ true
+  pop_keeps_room room = ap ready popped_well.1 ∙ by_sink (queue_of f) sink room
     where
       rest_length : (ps : List Payload) → length (rest ps) ≤ length ps
       rest_length [] = omega arith
       rest_length (p ∷ ps) = omega arith
 
-      by_sink : (q : Queue) (s : Bool) → ready q ≡ true → ready (pop_queue q s) ≡ true
+      by_sink : (q : Queue) (s : Bool) → ready q ≡ true → ready (popped q s) ≡ true
       by_sink q true r =
           lt-ltb (length (rest q.held)) (capacity q.place) (omega (arith, rest_length q.held, ltb-true (length q.held) (capacity q.place) r))
       by_sink q false r = r
 
   -- what is offered while there was room, joined to what the pop left, makes the cycle's queue
   module _ (offer : Bool) (p : Payload) where
-    offered_joins : well (record { place = popped.place; held = (queue_of popped).held ++ when (offer && ready (queue_of f)) (p ∷ []) })
+    offered_joins : well (record { place = left.place; held = (queue_of left).held ++ when (offer && ready (queue_of f)) (p ∷ []) })
         ≡ well (next (queue_of f) (when offer (p ∷ [])) sink)
     offered_joins =
-        ap (λ (q : Queue). well (record { place = q.place; held = q.held ++ when (offer && ready (queue_of f)) (p ∷ []) }))
-        (trusted_well popped (pop_queue (queue_of f) sink) pops).1
-        ∙ ap (λ (l : List Payload). well (record { place = f.place; held = (pop_queue (queue_of f) sink).held ++ l })) (by_tests offer (ready (queue_of f)))
+        ap (λ (q : Queue). well (record { place = q.place; held = q.held ++ when (offer && ready (queue_of f)) (p ∷ []) })) popped_well.1
+        ∙ ap (λ (l : List Payload). well (record { place = f.place; held = (popped (queue_of f) sink).held ++ l }))
+        (by_tests offer (ready (queue_of f)))
       where
         by_tests : (a b : Bool) → when (a && b) (p ∷ []) ≡ when b (when a (p ∷ []))
         by_tests true true = refl
@@ -218,10 +206,10 @@ module _ (f popped : Fifo) (sink : Bool) (pops : trusted popped ≡ well (pop_qu
         by_tests false true = refl
         by_tests false false = refl
 
-    pub push_makes_next : popped.place.depth ≤ length popped.slots → (offer && ready (queue_of f)) ≡ true
-        → trusted (after_push popped p) ≡ well (next (queue_of f) (when offer (p ∷ [])) sink)
+    pub push_makes_next : left.place.depth ≤ length left.slots → (offer && ready (queue_of f)) ≡ true
+        → trusted (after_push left p) ≡ well (next (queue_of f) (when offer (p ∷ [])) sink)
     push_makes_next wide joins =
-        push_joins_end popped p pop_in_range wide (pop_keeps_room (both offer (ready (queue_of f)) joins).1) ∙ rw joins at offered_joins
+        push_joins_end left p pop_in_range wide (pop_keeps_room (both offer (ready (queue_of f)) joins).1) ∙ rw joins at offered_joins
 
-    pub no_push : (offer && ready (queue_of f)) ≡ false → trusted popped ≡ well (next (queue_of f) (when offer (p ∷ [])) sink)
-    no_push none = trusted_in_lem popped pop_in_range ∙ rw (none, append-nil) at offered_joins
+    pub no_push : (offer && ready (queue_of f)) ≡ false → trusted left ≡ well (next (queue_of f) (when offer (p ∷ [])) sink)
+    no_push none = trusted_in_lem left pop_in_range ∙ rw (none, append-nil) at offered_joins

@@ -2,6 +2,7 @@
 pub mod Depths
 pub mod Places
 pub mod Slots
+pub mod Filled
 pub mod Form
 pub mod LentSlots
 pub mod Strobes

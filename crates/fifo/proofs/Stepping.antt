@@ -1,7 +1,7 @@
 -- A step's answer is the rule's, in a FIFO and in lent memory. One that was looked at once (`value f ≡ well q`) goes on having its whole
 -- form, since legal strobes stay legal, so that the promise over the numbers is the one over the value. Assumes nothing.
 use Prim.Native.Nat.{ℕ}
-use mathlib.Core.Bool.{Bool, true, false, cond, false≢true}
+use mathlib.Core.Bool.{Bool, true, false, false≢true}
 use mathlib.Core.List.{List, [], ◌∷◌}
 use mathlib.Core.Logic.{⊎_elim}
 use mathlib.Core.Option.{Option, none, some}
@@ -16,7 +16,7 @@ use Rattle.signals.specs.Payloads.{legal_strb}
 use Rattle.signals.proofs.Bools.{either}
 use Rattle.fifo.specs.declared.Fifo.{Fifo}
 use Rattle.fifo.specs.declared.Pointers.{Pointers}
-use Rattle.fifo.specs.Queue.{Queue, Value, well, ready_of, Answer, refused, cleared, cycled, step_grounds, step_by, step_of, when, is_any, oldest, shown, shown_as, ready, next, emptied, legal_strbs}
+use Rattle.fifo.specs.Queue.{Queue, Value, well, ready_of, Answer, refused, cycle_of, step_grounds, step_by, step_of, when, is_any, oldest, shown, shown_as, ready, next, emptied, legal_strbs}
 use Rattle.fifo.specs.Ring.{trusted, value, strobes_checked}
 use Rattle.fifo.specs.Promises.{Steps, answered, trusted_in, StaysPast, StepsIn, answered_in}
 use Rattle.fifo.proofs.Strobes.{legal_one, legal_when, shown_payload_legal, next_legal, empty_legal, checked_legal, checked_well, trusted_of_value}
@@ -34,7 +34,8 @@ pub ready_of_value : (f : Fifo) (q : Queue) → value f ≡ well q → ready_of 
 ready_of_value f q e = ap ready_of (trusted_of_value f q e).0
 
 -- a step that is not refused, and one that is
-pub step_legal : (q : Queue) (offer sink clear : Bool) (p : Payload) → legal_strb p ≡ true → step_of (well q) offer p sink clear ≡ cond clear (cleared q) (cycled q (when offer (p ∷ [])) sink)
+pub step_legal : (q : Queue) (offer sink clear : Bool) (p : Payload) → legal_strb p ≡ true
+    → step_of (well q) offer p sink clear ≡ cycle_of q (when offer (p ∷ [])) sink clear
 unfolding step_of
 step_legal q offer sink clear p a = rw a
 
@@ -42,12 +43,6 @@ pub step_refused : (v : Value) (offer sink clear : Bool) (p : Payload) (number :
     → step_of v offer p sink clear ≡ refused number v
 unfolding step_of
 step_refused v offer sink clear p number e = ap (λ (o : Option ℕ). step_by o v offer p sink clear) e
-
--- an answer whose parts are the cycle's is the cycle's
-pub parts_cycle : (q : Queue) (offer : List Payload) (sink is-ready valid : Bool) (p : Payload) (v : Value)
-    → is-ready ≡ ready q → valid ≡ is_any (shown q) → p ≡ shown_as (shown q) → v ≡ well (next q offer sink)
-    → record { refusal = none; ready = is-ready; valid = valid; payload = p; next = v } ≡ cycled q offer sink
-parts_cycle q offer sink is-ready valid p v by-ready by_valid by_payload by_next = rw (by-ready, by_valid, by_payload, by_next)
 
 -- the code's refusal is the rule's where its number is the one that is given
 pub refusal_steps : (value_of : Fifo → Value) (f : Fifo) (offer sink clear : Bool) (p : Payload) (why : Refusal)
@@ -58,14 +53,14 @@ refusal_steps value_of f offer sink clear p why given =
 
 -- and so is its cycle
 cycle_answers : (v : Value) (q : Queue) (offer sink clear : Bool) (p : Payload) (a : Answer)
-    → v ≡ well q → legal_strb p ≡ true → a ≡ cond clear (cleared q) (cycled q (when offer (p ∷ [])) sink)
+    → v ≡ well q → legal_strb p ≡ true → a ≡ cycle_of q (when offer (p ∷ [])) sink clear
     → a ≡ step_of v offer p sink clear
 cycle_answers v q offer sink clear p a e legal cycle =
     cycle ∙ sym (ap (λ (w : Value). step_of w offer p sink clear) e ∙ step_legal q offer sink clear p legal)
 
 pub cycle_steps : (f : Fifo) (q : Queue) (offer sink clear : Bool) (p : Payload) (s : Stepped Fifo)
     → trusted f ≡ well q → legal_strb p ≡ true
-    → answered trusted f (Ok s) ≡ cond clear (cleared q) (cycled q (when offer (p ∷ [])) sink)
+    → answered trusted f (Ok s) ≡ cycle_of q (when offer (p ∷ [])) sink clear
     → Steps trusted f offer p sink clear (Ok s)
 cycle_steps f q offer sink clear p s e legal cycle =
     record { answer = cycle_answers (trusted f) q offer sink clear p (answered trusted f (Ok s)) e legal cycle }
@@ -84,7 +79,7 @@ refusal_steps_in p words strbs offer sink clear payload why given =
 pub cycle_steps_in : (p : Pointers) (words strbs : List ℕ) (q : Queue) (offer sink clear : Bool) (payload : Payload) (s : Stepped Pointers)
     (afterWords afterStrbs : List ℕ)
     → trusted_in p words strbs ≡ well q → legal_strb payload ≡ true
-    → answered_in p (Ok s) afterWords afterStrbs ≡ cond clear (cleared q) (cycled q (when offer (payload ∷ [])) sink)
+    → answered_in p (Ok s) afterWords afterStrbs ≡ cycle_of q (when offer (payload ∷ [])) sink clear
     → StaysPast p.place.depth words strbs afterWords afterStrbs
     → StepsIn p words strbs offer payload sink clear (Ok s) afterWords afterStrbs
 cycle_steps_in p words strbs q offer sink clear payload s afterWords afterStrbs e legal cycle past =
@@ -104,7 +99,7 @@ unfolding step_of
 answer_legal q offer sink clear p a =
     ⊎_elim (λ e. rw e (by_clear e clear)) (λ e. rw e (record { payload = refl; next = checked_legal q a })) (either (legal_strb p))
   where
-    by_clear : legal_strb p ≡ true → (c : Bool) → Legal (cond c (cleared q) (cycled q (when offer (p ∷ [])) sink))
+    by_clear : legal_strb p ≡ true → (c : Bool) → Legal (cycle_of q (when offer (p ∷ [])) sink c)
     by_clear e true = record { payload = refl; next = checked_legal (emptied q) empty_legal }
     by_clear e false =
         record {
@@ -134,9 +129,9 @@ trusted_steps f q offer p sink clear r before steps =
 
 -- what a FIFO that holds q answers in one cycle, with clear or without, and the value that it leaves
 pub record Served (q : Queue) (offers : Bool) (p : Payload) (behind clear valid : Bool) (payload : Payload) (v : Value) : Type 0 where
-  pub by_valid : valid ≡ (cond clear (cleared q) (cycled q (when offers (p ∷ [])) behind)).valid
-  pub by_payload : payload ≡ (cond clear (cleared q) (cycled q (when offers (p ∷ [])) behind)).payload
-  pub by_next : v ≡ (cond clear (cleared q) (cycled q (when offers (p ∷ [])) behind)).next
+  pub by_valid : valid ≡ (cycle_of q (when offers (p ∷ [])) behind clear).valid
+  pub by_payload : payload ≡ (cycle_of q (when offers (p ∷ [])) behind clear).payload
+  pub by_next : v ≡ (cycle_of q (when offers (p ∷ [])) behind clear).next
   pub legal : legal_strb payload ≡ true
 
 -- an answer of the rule to a legal payload serves
@@ -146,7 +141,7 @@ answer_serves v q offers p behind clear a before legal answer =
     let look = checked_well v q before in
     let by_rule : a ≡ step_of (well q) offers p behind clear = answer ∙ ap (λ (w : Value). step_of w offers p behind clear) look.0 in
     let legal_answer : Legal a = rw by_rule (answer_legal q offers behind clear p look.1) in
-    let by_cycle : a ≡ cond clear (cleared q) (cycled q (when offers (p ∷ [])) behind) = by_rule ∙ step_legal q offers behind clear p legal in
+    let by_cycle : a ≡ cycle_of q (when offers (p ∷ [])) behind clear = by_rule ∙ step_legal q offers behind clear p legal in
     record {
       by_valid = ap (λ (x : Answer). x.valid) by_cycle;
       by_payload = ap (λ (x : Answer). x.payload) by_cycle;
@@ -170,7 +165,7 @@ answer_accepts v q offers p behind clear a before legal answer =
     (answer ∙ ap (λ (w : Value). step_of w offers p behind clear) look.0 ∙ step_legal q offers behind clear p legal)
     ∙ accepted clear
   where
-    accepted : (c : Bool) → accepts (cond c (cleared q) (cycled q (when offers (p ∷ [])) behind)).refusal ≡ true
+    accepted : (c : Bool) → accepts (cycle_of q (when offers (p ∷ [])) behind c).refusal ≡ true
     accepted true = refl
     accepted false = refl
 

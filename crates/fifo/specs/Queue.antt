@@ -103,7 +103,7 @@ pub record Answer : Type 0 where
 abbrev pub refused : (number : ℕ) → Value → Answer
 refused number v = record { refusal = some number; ready = false; valid = false; payload = zeros; next = v }
 
--- one cycle with no clear, and one with
+-- one cycle with no clear, one with, and either
 abbrev pub cycled : Queue → List Payload → Bool → Answer
 cycled q offer sink =
     record {
@@ -117,6 +117,9 @@ cycled q offer sink =
 abbrev pub cleared : Queue → Answer
 cleared q = record { refusal = none; ready = false; valid = false; payload = zeros; next = well (emptied q) }
 
+abbrev pub cycle_of : Queue → (offer : List Payload) → (sink clear : Bool) → Answer
+cycle_of q offer sink clear = cond clear (cleared q) (cycled q offer sink)
+
 -- the grounds for refusing a step, in the order in which they are tried
 abbrev pub step_grounds : Value → Payload → List (Row ℕ)
 step_grounds v p = 6 ⇐ not (is_well v) ∷ 2 ⇐ not (legal_strb p) ∷ []
@@ -124,7 +127,7 @@ step_grounds v p = 6 ⇐ not (is_well v) ∷ 2 ⇐ not (legal_strb p) ∷ []
 -- a step of any FIFO: refused with a number, or else the cycle
 abbrev pub step_by : (refusal : Option ℕ) → Value → (valid : Bool) → Payload → (sink clear : Bool) → Answer
 step_by (some number) v valid p sink clear = refused number v
-step_by none v valid p sink clear = cond clear (cleared (queue_in v)) (cycled (queue_in v) (when valid (p ∷ [])) sink)
+step_by none v valid p sink clear = cycle_of (queue_in v) (when valid (p ∷ [])) sink clear
 
 unfoldable pub step_of : Value → (valid : Bool) → Payload → (sink clear : Bool) → Answer
 step_of v valid p sink clear = step_by (first_applying (step_grounds v p)) v valid p sink clear

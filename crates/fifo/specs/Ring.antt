@@ -12,7 +12,7 @@ abbrev pub is_inside : (depth place : ℕ) → Bool
 is_inside depth place = ltb place depth
 
 -- the slot at a place that has passed the end of the ring at most once, found by a comparison
-unfoldable pub wrapped : (depth place : ℕ) → ℕ
+abbrev pub wrapped : (depth place : ℕ) → ℕ
 wrapped depth place = cond (is_inside depth place) place (place - depth)
 
 -- Request T-02: of a sum below twice the depth it is the slot that a remainder gives. The code's `wrap`, and `ring`, are this place.
@@ -41,8 +41,11 @@ abbrev pub queue_of : Fifo → Queue
 queue_of f = record { place = f.place; held = ring f.slots f.place.depth f.oldest f.count }
 
 -- the numbers are in range: a legal place, a position below its depth, and no more held than its capacity
-unfoldable pub in_range : Fifo → Bool
-in_range f = legal_place f.place && (ltb f.oldest f.place.depth && leb f.count (capacity f.place))
+abbrev pub numbers_in_range : Pointers → Bool
+numbers_in_range p = legal_place p.place && (ltb p.oldest p.place.depth && leb p.count (capacity p.place))
+
+abbrev pub in_range : Fifo → Bool
+in_range f = numbers_in_range (pointers_of f)
 
 -- A FIFO's places are the remainders'.
 pub record ByRemainder (f : Fifo) : Type 0 where

@@ -1,11 +1,11 @@
--- What one cycle does to a FIFO's numbers, and to its slots by them, for the contract of a private function. No promise of a public
+-- What one cycle does to a FIFO's numbers, and to its slots by them, for the contracts of private functions. No promise of a public
 -- call cites this file. Assumes nothing.
 use Rattle.std.specs.Prelude.{ℕ, Bool, cond, not, ◌&&◌, List, [], ◌∷◌, ◌≡◌, ◌<◌, ◌≤◌, length, get_or, set, Option, Some, None, is_some, IfSome}
 use Rattle.signals.specs.declared.Payload.{Payload}
 use Rattle.signals.specs.Payloads.{zeros}
 use Rattle.fifo.specs.declared.Pointers.{Pointers}
 use Rattle.fifo.specs.declared.ring.Turn.{Turn}
-use Rattle.fifo.specs.Queue.{well, when, emptied, ready, shown, shown_as, is_any, next}
+use Rattle.fifo.specs.Queue.{Queue, well, when, rest, emptied, ready, shown, shown_as, is_any, next}
 use Rattle.fifo.specs.Ring.{fifo_with, queue_of, trusted}
 
 -- the payload in the slot that is shown; zeros where none is
@@ -17,6 +17,10 @@ shown_from slots (Some at) = get_or slots at zeros
 abbrev pub set_at : {A : Type 0} → List A → Option ℕ → A → List A
 set_at xs None x = xs
 set_at xs (Some at) x = set xs at x
+
+-- the queue from which the oldest has left where the sink is ready
+abbrev pub popped : Queue → (sink : Bool) → Queue
+popped q sink = record { place = q.place; held = cond sink (rest q.held) q.held }
 
 -- the slot that is shown is within the depth, and whatever the slots hold its payload is the one that the rule shows
 pub record Shows (p : Pointers) (clear : Bool) (o : Option ℕ) : Type 0 where

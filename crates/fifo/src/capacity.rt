@@ -9,11 +9,7 @@ impl Place {
     pub(crate) fn capacity(self) -> usize
         ensures { result ≡ capacity self }
     {
-        if self.early_stall & (0 < self.depth) {
-            self.depth - 1
-        } else {
-            self.depth
-        }
+        self.depth.saturating_sub(usize::from(self.early_stall))
     }
 
     // The least depth of its kind.
@@ -28,6 +24,6 @@ impl Place {
         ensures { result ≡ legal_place self }
     {
         let depth = self.depth;
-        (self.min_depth() <= depth) & ((depth <= MAX_DEPTH) & (depth / 2 * 2 == depth))
+        (self.min_depth() <= depth) & ((depth <= MAX_DEPTH) & (depth % 2 == 0))
     }
 }

@@ -9,8 +9,8 @@ mod capacity;
 mod memory;
 mod ring;
 
-ghost use Rattle.std.specs.Prelude.{◌≡◌, true, cond, [], ◌∷◌, length, Ok};
-ghost use Rattle.fifo.specs.Queue.{is_well, ready_of, queue_in, when, well, empty, plain, cleared, cycled};
+ghost use Rattle.std.specs.Prelude.{◌≡◌, true, [], ◌∷◌, length, Ok};
+ghost use Rattle.fifo.specs.Queue.{is_well, ready_of, queue_in, when, well, empty, plain, cycle_of};
 ghost use Rattle.fifo.specs.Ring.{value, trusted, queue_of, in_range};
 ghost use Rattle.fifo.specs.Promises.{Made, Steps, answered};
 
@@ -20,7 +20,8 @@ use signals::{Cycle, MAX_STRB, Payload, Refusal, Stepped, ZEROS};
 // The deepest FIFO.
 pub const MAX_DEPTH: usize = 64;
 
-// A place in a chain: the depth of the FIFO there, and whether it is early-stall or plain.
+// A place in a chain: the depth of the FIFO there, and whether it is early-stall or plain. The kind is a flag, since C hands places over
+// (`floealder_fifo_new`), and a struct that is exported has no enum.
 #[repr(C)]
 #[derive(Clone, Copy)]
 pub struct Place {
@@ -126,9 +127,11 @@ impl Fifo {
     }
 
     // One cycle, nothing being refused. The slots are copied out once and back once.
+    // A trait for the two kinds of slots, with its clauses and two instances, would be longer than the lines shared with `Pointers::step`.
     fn cycle(self, given: Cycle) -> Stepped<Fifo>
         requires { in_range self ≡ true }
-        ensures { answered trusted self (Ok result) ≡ cond given.clear (cleared (queue_of self)) (cycled (queue_of self) (when given.valid (given.payload ∷ [])) given.sink) }
+        ensures { answered trusted self (Ok result)
+            ≡ cycle_of (queue_of self) (when given.valid (given.payload ∷ [])) given.sink given.clear }
     {
         let pointers = self.pointers();
         let mut slots = self.slots;
@@ -141,7 +144,7 @@ impl Fifo {
         if let Some(at) = turn.joined {
             slots[at] = given.payload;
         }
-        // valid beside the payload, as C is handed them: zeros where it is 0.
+        // valid beside the payload, as the definitions read them (`answered`): zeros where it is 0.
         Stepped {
             ready: turn.ready,
             valid: shown.is_some(),

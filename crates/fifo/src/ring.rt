@@ -1,11 +1,11 @@
 // The ring of a FIFO: its form, where its payloads lie, and how the oldest leaves.
 //
 // A place in the ring is found by a comparison, and no held payload is moved.
-ghost use Rattle.std.specs.Prelude.{◌≡◌, true, cond, List, []};
+ghost use Rattle.std.specs.Prelude.{◌≡◌, true, List};
 ghost use Rattle.signals.specs.declared.Payload.{Payload};
-ghost use Rattle.fifo.specs.Queue.{legal_place, well, empty, rest};
-ghost use Rattle.fifo.specs.Ring.{ready_in, wrapped, pointers_of, fifo_with, trusted, queue_of, in_range};
-ghost use Rattle.fifo.specs.Turn.{Shows, Turns};
+ghost use Rattle.fifo.specs.Queue.{legal_place, well, empty};
+ghost use Rattle.fifo.specs.Ring.{ready_in, wrapped, pointers_of, fifo_with, trusted, queue_of, numbers_in_range, in_range};
+ghost use Rattle.fifo.specs.Turn.{popped, Shows, Turns};
 
 use super::{Fifo, MAX_DEPTH, Place, Pointers};
 use signals::{Cycle, Payload, ZEROS};
@@ -27,6 +27,7 @@ pub(crate) fn wrap(depth: usize, place: usize) -> usize
 }
 
 impl Fifo {
+    // A FIFO that holds nothing, at a legal place.
     pub(crate) fn empty(place: Place) -> Fifo
         requires { legal_place place ≡ true }
         ensures { trusted result ≡ well (empty place) }
@@ -39,6 +40,7 @@ impl Fifo {
         }
     }
 
+    // The FIFO but for its slots: a part of it, and so no `From`.
     pub(crate) fn pointers(self) -> Pointers
         ensures { result ≡ pointers_of self }
     {
@@ -57,8 +59,8 @@ impl Fifo {
     }
 }
 
-// What the numbers say is said whatever the slots hold. That they are in range is asked by `requires`: a type for it would hold the
-// numbers once more, and have to be tied to the FIFO that it was made from.
+// What the numbers say is said whatever the slots hold. That they are in range is asked by `requires`: a type with the fact would be a
+// second `Pointers`, made from the public one at each call and made back into it in the answer (`Turn.next`, and what a step hands back).
 impl Pointers {
     // The FIFO with these numbers and slots.
     pub(crate) fn with_slots(self, slots: [Payload; MAX_DEPTH]) -> Fifo
@@ -74,7 +76,7 @@ impl Pointers {
 
     // Whether the numbers are in range.
     pub(crate) fn is_in_range(self) -> bool
-        ensures { (slots : List Payload) → result ≡ in_range (fifo_with self slots) }
+        ensures { result ≡ numbers_in_range self }
     {
         let depth = self.place.depth;
         let most = self.place.capacity();
@@ -90,14 +92,15 @@ impl Pointers {
 
     // Where the payloads lie after the oldest has left, which it does when the sink is ready.
     fn popped(self, sink: bool) -> Pointers
-        requires { in_range (fifo_with self []) ≡ true }
-        ensures { (slots : List Payload) → trusted (fifo_with result slots) ≡ well (record { place = self.place; held = cond sink (rest (queue_of (fifo_with self slots)).held) (queue_of (fifo_with self slots)).held }) }
+        requires { numbers_in_range self ≡ true }
+        ensures in_range { numbers_in_range result ≡ true }
+        ensures value { (slots : List Payload) → trusted (fifo_with result slots) ≡ well (popped (queue_of (fifo_with self slots)) sink) }
     {
         if sink & (0 < self.count) {
             return Pointers {
-                place: self.place,
                 count: self.count - 1,
                 oldest: wrap(self.place.depth, self.oldest + 1),
+                ..self
             };
         }
         self
@@ -105,16 +108,16 @@ impl Pointers {
 
     // The slot that a cycle shows: the oldest payload's, unless none is held or it is a clear.
     pub(crate) fn shown(self, clear: bool) -> Option<usize>
-        requires { in_range (fifo_with self []) ≡ true }
+        requires { numbers_in_range self ≡ true }
         ensures { Shows self clear result }
     {
         (!clear & (0 < self.count)).then_some(self.oldest)
     }
 
     // One cycle, nothing being refused, wherever the slots lie: the caller has read the slot that is shown, and writes the one that is
-    // joined. A trait for the two kinds of slots would be longer than these two accesses.
+    // joined. A trait for the two kinds of slots would be longer than the lines that `Fifo::cycle` and `Pointers::step` share.
     pub(crate) fn turn(self, given: Cycle) -> Turn
-        requires { in_range (fifo_with self []) ≡ true }
+        requires { numbers_in_range self ≡ true }
         ensures { Turns self given.valid given.payload given.sink given.clear result }
     {
         if given.clear {

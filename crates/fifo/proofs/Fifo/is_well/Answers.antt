@@ -1,12 +1,12 @@
 -- `Fifo::is_well` meets its contract: with the numbers in range, the strobes that are left to look at decide it. Assumes nothing.
-use Prim.Native.Nat.{ℕ, ◌+◌, ◌-◌}
+use Prim.Native.Nat.{◌+◌, ◌-◌}
 use native.Mathlib.Omega.{arith}
-use mathlib.Core.Path.{◌≡◌, sym, ap, ap₂, ◌∙◌}
+use mathlib.Core.Path.{◌≡◌, sym, ap, ◌∙◌}
 use Rattle.fifo.specs.Queue.{is_well, legal_strbs}
 use Rattle.fifo.specs.Ring.{ring, wrapped}
 use Rattle.fifo.proofs.Depths.{capacity_most}
-use Rattle.fifo.proofs.Form.{form_of, oldest_within, count_within, place_within, trusted_in_lem, trusted_out}
-use Rattle.fifo.proofs.Places.{wrapped_inside, wrapped_step}
+use Rattle.fifo.proofs.Form.{form_of, trusted_in_lem, trusted_out}
+use Rattle.fifo.proofs.Places.{wrapped_step}
 use Rattle.fifo.proofs.Slots.{strobe_legal, strobe_illegal}
 use Rattle.fifo.proofs.Strobes.{well_strobes, ill_value}
 use Rattle.fifo.proofs.Fifo.is_well.Goals as goal
@@ -16,32 +16,6 @@ returns-then-not-is_in_range c =
     let f = c.args.self in
     sym (ap is_well (ill_value f (trusted_out f (sym c.is_in_range.ensures ∙ c.if-not-is_in_range.true))))
 
-pub loop-i-init : goal.loop-i-init
-loop-i-init c =
-    let f = c.args.self in
-    let form = form_of f (sym c.is_in_range.ensures ∙ c.if-not-is_in_range.false) in
-    let start : f.oldest ≡ wrapped f.place.depth (f.oldest + 0) = omega (arith, wrapped_inside f.place.depth f.oldest 0 (omega (arith, form.oldest))) in
-    let all : f.count ≡ f.count - 0 = omega arith in
-    ap₂ (λ (at n : ℕ). legal_strbs (ring f.slots f.place.depth at n)) start all
-
-pub overflow_add-self : goal.overflow_add-self
-overflow_add-self c =
-    let f = c.args.self in
-    let inside = sym c.is_in_range.ensures ∙ c.if-not-is_in_range.false in
-    omega (arith, oldest_within f inside, count_within f inside)
-
-pub bounds-self-wrap : goal.bounds-self-wrap
-bounds-self-wrap c =
-    let f = c.args.self in
-    let inside = sym c.is_in_range.ensures ∙ c.if-not-is_in_range.false in
-    omega (arith, c.wrap.ensures, place_within f c.loop-i.i inside (omega arith))
-
-pub offset_bounds-self-wrap : goal.offset_bounds-self-wrap
-offset_bounds-self-wrap c =
-    let f = c.args.self in
-    let inside = sym c.is_in_range.ensures ∙ c.if-not-is_in_range.false in
-    omega (arith, c.wrap.ensures, place_within f c.loop-i.i inside (omega arith))
-
 pub returns-then-held-gt-MAX_STRB : goal.returns-then-held-gt-MAX_STRB
 returns-then-held-gt-MAX_STRB c =
     let f = c.args.self in
@@ -49,7 +23,9 @@ returns-then-held-gt-MAX_STRB c =
     let inside = sym c.is_in_range.ensures ∙ c.if-not-is_in_range.false in
     sym (well_strobes f _ (trusted_in_lem f inside)
     ∙ l.invariant
-    ∙ strobe_illegal f.slots f.place.depth (wrapped f.place.depth (f.oldest + l.i)) (f.count - l.i) (omega arith) (rw c.wrap.ensures at c.if-held-gt-MAX_STRB.true))
+    ∙ strobe_illegal f.slots f.place.depth (wrapped f.place.depth (f.oldest + l.i)) (f.count - l.i)
+    (omega arith)
+    (rw c.wrap.ensures at c.if-held-gt-MAX_STRB.true))
 
 pub loop-i-preserved : goal.loop-i-preserved
 loop-i-preserved c =
@@ -59,7 +35,9 @@ loop-i-preserved c =
     let left : f.count - (l.i + 1) ≡ f.count - l.i - 1 = omega arith in
     rw (left, sym (wrapped_step f.place.depth f.oldest l.i form.oldest (omega (arith, form.count, capacity_most f.place))))
     (l.invariant
-    ∙ strobe_legal f.slots f.place.depth (wrapped f.place.depth (f.oldest + l.i)) (f.count - l.i) (omega arith) (rw c.wrap.ensures at c.if-held-gt-MAX_STRB.false))
+    ∙ strobe_legal f.slots f.place.depth (wrapped f.place.depth (f.oldest + l.i)) (f.count - l.i)
+    (omega arith)
+    (rw c.wrap.ensures at c.if-held-gt-MAX_STRB.false))
 
 pub returns : goal.returns
 unfolding ring legal_strbs

@@ -3,13 +3,6 @@ use mathlib.Core.Path.{sym, ◌∙◌}
 use Rattle.fifo.proofs.Strobes.{value_of_trusted, empty_legal}
 use Rattle.fifo.proofs.Fifo.new.Goals as goal
 
-pub empty-requires : goal.empty-requires
-empty-requires c = sym c.is_legal.ensures ∙ c.if-not-is_legal.false
-
-pub returns-then-not-is_legal : goal.returns-then-not-is_legal
-returns-then-not-is_legal c =
-    let illegal = sym c.is_legal.ensures ∙ c.if-not-is_legal.true in record { refusal = rw illegal; gives = tt }
-
 pub returns : goal.returns
 returns c =
     let legal = sym c.is_legal.ensures ∙ c.if-not-is_legal.false in

@@ -1,4 +1,5 @@
--- `Fifo::step_trusted` meets its contract: each return is one case of the rule, and each refusal is the first that applies. Assumes nothing.
+-- `Fifo::step_trusted` meets its contract: each return is one case of the rule, and each refusal is the first that applies.
+-- Assumes nothing.
 use mathlib.Core.Path.{◌≡◌, sym, ◌∙◌}
 use mathlib.Core.Bool.{true, false}
 use borrow.Author.Tests.{le-leb, lt-leb}
@@ -23,9 +24,6 @@ returns-then-cycle-gt-MAX_STRB c =
     let inside = sym c.is_in_range.ensures ∙ c.if-not-is_in_range.false in
     let illegal : legal_strb g.payload ≡ false = lt-leb g.payload.strb max_strb c.if-cycle-gt-MAX_STRB.true in
     refusal_steps trusted a.self g.valid g.sink g.clear g.payload IllegalBits (rw (trusted_in_lem a.self inside, illegal))
-
-pub cycle-requires : goal.cycle-requires
-cycle-requires c = sym c.is_in_range.ensures ∙ c.if-not-is_in_range.false
 
 pub returns : goal.returns
 returns c =
