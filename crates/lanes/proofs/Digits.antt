@@ -1,7 +1,7 @@
 -- Strobes side by side are digits to the base 16: lane i's stay below 16 to the power i + 1, and are found there again.
 -- By induction over the number of lanes, the last apart. Assumes nothing.
-use Prim.Native.Nat.{ℕ, zero, suc, ◌+◌, ◌-◌, ◌*◌, ◌/◌, ◌%◌, ◌^◌, ◌<◌}
-use native.Mathlib.Nat.{zero-lt-suc, one-le-pow, pow-suc, mul_assoc, mul_comm, mod-eq_of_lt, mul-add-div_right, mul-add-mod_self_right, mod-one}
+use Prim.Native.Nat.{ℕ, zero, suc, ◌+◌, ◌-◌, ◌*◌, ◌/◌, ◌%◌, ◌^◌, ◌<◌, ◌≤◌}
+use native.Mathlib.Nat.{zero-lt-suc, one-le-pow, pow-suc, pow-le-pow_right, mul_assoc, mul_comm, mod-eq_of_lt, mul-add-div_right, mul-add-mod_self_right, mod-one}
 use native.Mathlib.Omega.{arith}
 use mathlib.Core.Bool.{true}
 use mathlib.Core.List.{List}
@@ -17,11 +17,16 @@ use Rattle.signals.proofs.Below.{each_below}
 use Rattle.signals.proofs.Bools.{either}
 use Rattle.lanes.specs.declared.Offer.{Offer}
 use Rattle.lanes.specs.declared.Wide.{Wide}
+use Rattle.lanes.specs.Lanes.{max_lanes}
 use Rattle.lanes.specs.Merge.{payload_at, legal_strobes}
 use Rattle.lanes.specs.Wide.{lane, strobes_below}
 
 pub pow_pos : (i : ℕ) → 0 < 16 ^ i
 pow_pos i = one-le-pow i 16 (zero-lt-suc 15)
+
+-- four lanes' strobes fit in 16 bits
+pub pow_few : (i : ℕ) → i ≤ max_lanes → 16 ^ i ≤ 65536
+pow_few i few = pow-le-pow_right {n = 16} (zero-lt-suc 15) few
 
 -- strobes above lane i do not show in it
 above : (s d i below : ℕ) → (s * 16 ^ (suc d + i) + below) / 16 ^ i % 16 ≡ below / 16 ^ i % 16

@@ -37,25 +37,34 @@ four = offering 7 15 ∷ offering 8 3 ∷ offering 9 0 ∷ offering 10 8 ∷ []
 
 -- strb 15 + 3 * 16, in bits 0011 1111
 two_merged : ofMerge.answer 2 two true ≡
-    record { refusal = none; valid = true; wide = record { «data» = 7 ∷ 8 ∷ 0 ∷ 0 ∷ []; strb = 63 }; readies = true ∷ true ∷ false ∷ false ∷ [] }
+    record {
+      refusal = none;
+      outputs = record { valid = true; wide = record { «data» = 7 ∷ 8 ∷ 0 ∷ 0 ∷ []; strb = 63 }; readies = true ∷ true ∷ false ∷ false ∷ [] };
+    }
 unfolding ofMerge.answer
 two_merged = refl
 
 -- 8 * 4096 + 0 * 256 + 3 * 16 + 15
 four_merged : ofMerge.answer 4 four true ≡
-    record { refusal = none; valid = true; wide = record { «data» = 7 ∷ 8 ∷ 9 ∷ 10 ∷ []; strb = 32831 }; readies = true ∷ true ∷ true ∷ true ∷ [] }
+    record {
+      refusal = none;
+      outputs = record { valid = true; wide = record { «data» = 7 ∷ 8 ∷ 9 ∷ 10 ∷ []; strb = 32831 }; readies = true ∷ true ∷ true ∷ true ∷ [] };
+    }
 unfolding ofMerge.answer
 four_merged = refl
 
 -- the output is not ready: it is shown, and no input is taken
 two_stalled : ofMerge.answer 2 two false ≡
-    record { refusal = none; valid = true; wide = record { «data» = 7 ∷ 8 ∷ 0 ∷ 0 ∷ []; strb = 63 }; readies = false ∷ false ∷ false ∷ false ∷ [] }
+    record {
+      refusal = none;
+      outputs = record { valid = true; wide = record { «data» = 7 ∷ 8 ∷ 0 ∷ 0 ∷ []; strb = 63 }; readies = false ∷ false ∷ false ∷ false ∷ [] };
+    }
 unfolding ofMerge.answer
 two_stalled = refl
 
 -- one input is not valid: nothing is shown, and none of the others is taken
 one_missing : ofMerge.answer 2 (offering 7 15 ∷ idle 8 3 ∷ []) true ≡
-    record { refusal = none; valid = false; wide = wide_zeros; readies = false ∷ false ∷ false ∷ false ∷ [] }
+    record { refusal = none; outputs = record { valid = false; wide = wide_zeros; readies = false ∷ false ∷ false ∷ false ∷ [] } }
 unfolding ofMerge.answer
 one_missing = refl
 
@@ -66,19 +75,19 @@ abbrev wide : Wide
 wide = record { «data» = 7 ∷ 8 ∷ 9 ∷ 9 ∷ []; strb = 63 }
 
 two_split : ofSplit.answer 2 true wide (true ∷ true ∷ false ∷ false ∷ []) ≡
-    record { refusal = none; ready = true; branches = offering 7 15 ∷ offering 8 3 ∷ no_offer ∷ no_offer ∷ [] }
+    record { refusal = none; outputs = record { ready = true; branches = offering 7 15 ∷ offering 8 3 ∷ no_offer ∷ no_offer ∷ [] } }
 unfolding ofSplit.answer
 two_split = refl
 
 -- one branch is not ready: none is offered anything
 one_not_ready : ofSplit.answer 2 true wide (true ∷ false ∷ true ∷ true ∷ []) ≡
-    record { refusal = none; ready = false; branches = no_offer ∷ no_offer ∷ no_offer ∷ no_offer ∷ [] }
+    record { refusal = none; outputs = record { ready = false; branches = no_offer ∷ no_offer ∷ no_offer ∷ no_offer ∷ [] } }
 unfolding ofSplit.answer
 one_not_ready = refl
 
 -- the source is not valid: it gets ready all the same
 source_idle : ofSplit.answer 2 false wide (true ∷ true ∷ false ∷ false ∷ []) ≡
-    record { refusal = none; ready = true; branches = no_offer ∷ no_offer ∷ no_offer ∷ no_offer ∷ [] }
+    record { refusal = none; outputs = record { ready = true; branches = no_offer ∷ no_offer ∷ no_offer ∷ no_offer ∷ [] } }
 unfolding ofSplit.answer
 source_idle = refl
 
@@ -94,12 +103,12 @@ unfolding ofMerge.answer
 three_lanes = refl
 
 -- a strobe above 15, also where valid is 0, but not past the lanes, as in `two_merged`
-strobe_16 : ofMerge.answer 2 (offering 7 15 ∷ idle 8 16 ∷ []) true ≡ ofMerge.refused 2
+strobe_16 : ofMerge.answer 2 (offering 7 15 ∷ idle 8 16 ∷ []) true ≡ record { refusal = some 2; outputs = ofMerge.zeros }
 unfolding ofMerge.answer
 strobe_16 = refl
 
 -- a strobe of lane 2, also where valid is 0, but not with four lanes
-strobe_of_lane_2 : ofSplit.answer 2 false (record { «data» = []; strb = 256 }) [] ≡ ofSplit.refused 2
+strobe_of_lane_2 : ofSplit.answer 2 false (record { «data» = []; strb = 256 }) [] ≡ record { refusal = some 2; outputs = ofSplit.zeros }
 unfolding ofSplit.answer
 strobe_of_lane_2 = refl
 

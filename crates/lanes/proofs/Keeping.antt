@@ -4,15 +4,15 @@
 use Prim.Native.Nat.{ℕ, zero, suc, ◌<◌, ◌≤◌}
 use mathlib.Core.Bool.{Bool, true, false, cond, not, ◌&&◌, false≢true}
 use mathlib.Core.List.{List}
-use mathlib.Core.Path.{◌≡◌, refl, sym, ◌∙◌, ap, ap₂}
+use mathlib.Core.Path.{◌≡◌, refl, sym, ◌∙◌, ap}
 use borrow.Author.Tests.{not-true}
-use Rattle.signals.specs.declared.Payload.{Payload}
 use Rattle.signals.specs.Payloads.{legal_strb, same_payload}
 use Rattle.signals.specs.Stream.{Sample}
 use Rattle.signals.proofs.Below.{each_below, every_below_lem}
 use Rattle.signals.proofs.Bools.{both}
 use Rattle.signals.proofs.Payloads.{same_payload_lem, payloads_same}
 use Rattle.stream_checker.specs.Rules.{stalled, breaks_held, breaks_stable}
+use Rattle.lanes.specs.declared.MergeCycle.{MergeCycle}
 use Rattle.lanes.specs.declared.Offer.{Offer}
 use Rattle.lanes.specs.declared.Wide.{Wide}
 use Rattle.lanes.specs.Lanes.{max_lanes, legal_lanes}
@@ -22,20 +22,20 @@ use Rattle.lanes.specs.Merge as ofMerge
 use Rattle.lanes.specs.Merge.{payload_at, legal_strobes, all_valid}
 use Rattle.lanes.specs.Split.{ready_at, all_ready}
 use Rattle.lanes.specs.Keeping.{seen, Keeps, merge_in, output_trace, MergeKeepsRules, branch_trace, NoBranchStalls, BranchesKeepRules}
-use Rattle.lanes.proofs.PerLane.{lane_entry, lanes_alike}
-use Rattle.lanes.proofs.Digits.{strobes_alike}
+use Rattle.lanes.proofs.PerLane.{lane_entry}
+use Rattle.lanes.proofs.Used.{together_alike}
 use Rattle.lanes.proofs.Answers.{lanes_few, merge_accepts, merge_by, offered}
 
 -- ---- merge
 
 -- a merge that shows valid is not refused, and all its inputs are valid
-shows : (lanes : ℕ) (inputs : List Offer) (ready : Bool) → (ofMerge.answer lanes inputs ready).valid ≡ true →
+shows : (lanes : ℕ) (inputs : List Offer) (ready : Bool) → (ofMerge.answer lanes inputs ready).outputs.valid ≡ true →
     (legal_lanes lanes ≡ true) × (legal_strobes lanes inputs ≡ true) × (all_valid lanes inputs ≡ true)
 shows lanes inputs ready =
     merge_by lanes inputs ready
     (λ a. a.valid ≡ true → (legal_lanes lanes ≡ true) × (legal_strobes lanes inputs ≡ true) × (all_valid lanes inputs ≡ true))
     (λ l s e. (l, s, e))
-    (λ number e. absurd (false≢true e))
+    (λ e. absurd (false≢true e))
 
 -- what the rules ask of a stream that stalls
 stays_valid : (s now : Bool) → s ≡ true → s && not now ≡ false → now ≡ true
@@ -48,11 +48,11 @@ stays_same s now false stall valid e = absurd (false≢true (sym (rw (stall, val
 
 -- two cycles after one another, in which each input keeps the rules, and the output stalls in the first
 module _ (lanes : ℕ) (inputs next : List Offer) (ready ready-next : Bool) where
-  abbrev first : ofMerge.Answer
-  first = ofMerge.answer lanes inputs ready
+  abbrev first : MergeCycle
+  first = (ofMerge.answer lanes inputs ready).outputs
 
-  abbrev second : ofMerge.Answer
-  second = ofMerge.answer lanes next ready-next
+  abbrev second : MergeCycle
+  second = (ofMerge.answer lanes next ready-next).outputs
 
   abbrev before : ℕ → Sample
   before i = seen (offer_at inputs i) (ready_at first.readies i)
@@ -72,7 +72,7 @@ module _ (lanes : ℕ) (inputs next : List Offer) (ready ready-next : Bool) wher
     -- each input stalls
     unready : (i : ℕ) → i < lanes → ready_at first.readies i ≡ false
     unready i h =
-        ap (λ (a : ofMerge.Answer). ready_at a.readies i) (merge_accepts lanes inputs ready w.0 w.1)
+        ap (λ (a : MergeCycle). ready_at a.readies i) (merge_accepts lanes inputs ready w.0 w.1)
         ∙ lane_entry false (λ j. ready && all_valid lanes inputs) lanes i few h
         ∙ ap (λ (b : Bool). b && all_valid lanes inputs) left
 
@@ -99,20 +99,14 @@ module _ (lanes : ℕ) (inputs next : List Offer) (ready ready-next : Bool) wher
     second_cycle : second ≡ ofMerge.cycle lanes next ready-next
     second_cycle = merge_accepts lanes next ready-next w.0 legal_next
 
-    same_together : together lanes (payload_at next) ≡ together lanes (payload_at inputs)
-    same_together =
-        ap₂ {C = Wide} (λ (words : List ℕ) (strb : ℕ). record { «data» = words; strb = strb })
-        (lanes_alike 0 (λ i. (payload_at next i).«data») (λ i. (payload_at inputs i).«data») lanes few (λ i h. ap (λ (p : Payload). p.«data») (same_next i h)))
-        (strobes_alike (payload_at next) (payload_at inputs) lanes same_next)
-
     still : (second.valid ≡ true) × (second.wide ≡ first.wide)
     still = (
-      ap (λ (a : ofMerge.Answer). a.valid) second_cycle ∙ all_next,
-      ap (λ (a : ofMerge.Answer). a.wide) second_cycle
+      ap (λ (a : MergeCycle). a.valid) second_cycle ∙ all_next,
+      ap (λ (a : MergeCycle). a.wide) second_cycle
           ∙ ap (λ (b : Bool). cond b (together lanes (payload_at next)) wide_zeros) all_next
-          ∙ same_together
+          ∙ together_alike (payload_at next) (payload_at inputs) lanes few same_next
           ∙ sym
-          (ap (λ (a : ofMerge.Answer). a.wide) (merge_accepts lanes inputs ready w.0 w.1)
+          (ap (λ (a : MergeCycle). a.wide) (merge_accepts lanes inputs ready w.0 w.1)
           ∙ ap (λ (b : Bool). cond b (together lanes (payload_at inputs)) wide_zeros) w.2),
     )
 

@@ -2,11 +2,10 @@
 use Prim.Native.Nat.{ℕ, ◌<◌, ◌≤◌}
 use native.Mathlib.Omega.{arith}
 use mathlib.Core.Bool.{Bool, true, false, cond}
-use mathlib.Core.List.{List}
 use mathlib.Core.Logic.{⊎_elim}
 use mathlib.Core.Path.{◌≡◌, refl, sym, ◌∙◌, ap}
 use lib.Dec.{ltb}
-use lib.ListN.{length, get_or, get_or-eq_default}
+use lib.ListN.{get_or, get_or-eq_default}
 use lib.Seq.{ext_get_or}
 use borrow.Author.Tests.{ltb-true, ltb-false, lt-ltb, le-ltb}
 use Rattle.signals.proofs.Bools.{either}
@@ -48,11 +47,3 @@ module _ {A : Type 0} where
           entry_or_nothing nothing f lanes i few
           ∙ either_way i (ltb i lanes) (λ t. same i (ltb-true i lanes t))
           ∙ sym (entry_or_nothing nothing g lanes i few)
-
-  -- an array of four whose entries are those of the lanes, and nothing past them
-  pub made_per_lane : (nothing : A) (entry : ℕ → A) (lanes : ℕ) (made : List A) → length made ≡ max_lanes →
-      ((i : ℕ) → i < max_lanes → get_or made i nothing ≡ cond (ltb i lanes) (entry i) nothing) →
-      made ≡ per_lane lanes nothing entry
-  made_per_lane nothing entry lanes made size each =
-      ext_get_or nothing made (per_lane lanes nothing entry) size
-      (λ i h. let g = rw size at h in each i g ∙ sym (entry_at (λ j. cond (ltb j lanes) (entry j) nothing) max_lanes i nothing g))

@@ -16,7 +16,9 @@ use Rattle.signals.specs.declared.Payload.{Payload}
 use Rattle.signals.specs.Payloads.{max_strb}
 use Rattle.signals.proofs.Below.{each_below}
 use Rattle.signals.proofs.Bools.{either}
+use Rattle.lanes.specs.declared.MergeCycle.{MergeCycle}
 use Rattle.lanes.specs.declared.Offer.{Offer}
+use Rattle.lanes.specs.declared.SplitCycle.{SplitCycle}
 use Rattle.lanes.specs.declared.Wide.{Wide}
 use Rattle.lanes.specs.Lanes.{max_lanes, legal_lanes, per_lane}
 use Rattle.lanes.specs.Offers.{no_offer, offer_when, offer_at}
@@ -28,7 +30,7 @@ use Rattle.lanes.specs.Split.{ready_at, strobe_past, all_ready}
 use Rattle.lanes.specs.Wired.{handed, to_branch, SameCycle, SameOrder, Wires, ApartIsEach, TogetherIsWhole}
 use Rattle.lanes.proofs.PerLane.{entry_or_nothing, lane_entry, no_entry}
 use Rattle.lanes.proofs.Digits.{pow_pos, strobes_fit, strobes_found, strobes_of_lanes, legal_below}
-use Rattle.lanes.proofs.Answers.{lanes_few, merge_accepts, merge_by, split_accepts, split_refuses_lanes, branch, offers_none}
+use Rattle.lanes.proofs.Answers.{lanes_few, merge_accepts, merge_by, split_accepts, ready_is, branch, offers_none}
 
 -- ---- of payloads alone
 
@@ -79,9 +81,11 @@ agrees true false false iv br p q valid ready same = sym (unready (record { vali
 agrees false v r iv br p q valid ready same = sym (unready (record { valid = iv; payload = q }))
 
 -- what a merge shows has no strobe past the lanes, so the split behind it is not refused for one
-no_strobe_past : (lanes : ℕ) (inputs : List Offer) (ready : Bool) → strobe_past lanes (ofMerge.answer lanes inputs ready).wide ≡ false
+no_strobe_past : (lanes : ℕ) (inputs : List Offer) (ready : Bool) →
+    strobe_past lanes (ofMerge.answer lanes inputs ready).outputs.wide ≡ false
 no_strobe_past lanes inputs ready =
-    merge_by lanes inputs ready (λ a. strobe_past lanes a.wide ≡ false) (λ l s. ⊎_elim (shows s) hides (either (all_valid lanes inputs))) (λ number. none)
+    merge_by lanes inputs ready (λ a. strobe_past lanes a.wide ≡ false)
+    (λ l s. ⊎_elim (shows s) hides (either (all_valid lanes inputs))) none
   where
     none : strobe_past lanes wide_zeros ≡ false
     none = lt-leb (16 ^ lanes) 0 (pow_pos lanes)
@@ -122,17 +126,17 @@ same_cycle_lem lanes i c =
     subst Same (sym c.merges)
     (merge_by lanes c.inputs c.split.ready (λ m. c.split ≡ split_of m → Same m) accepted refused (c.splits ∙ ap split_of c.merges))
   where
-    split_of : ofMerge.Answer → ofSplit.Answer
-    split_of m = ofSplit.answer lanes m.valid m.wide c.readies
+    split_of : MergeCycle → SplitCycle
+    split_of m = (ofSplit.answer lanes m.valid m.wide c.readies).outputs
 
-    Same : ofMerge.Answer → Type 0
+    Same : MergeCycle → Type 0
     Same m = to_branch i c ≡ handed (offer_at c.inputs i) (ready_at m.readies i)
 
     -- the merge is refused: the branch is offered nothing, and the input gets no ready
-    refused : (number : ℕ) → c.split ≡ split_of (ofMerge.refused number) → Same (ofMerge.refused number)
-    refused number splits =
+    refused : c.split ≡ split_of ofMerge.zeros → Same ofMerge.zeros
+    refused splits =
         ap (λ (o : Offer). handed o (ready_at c.readies i))
-        (ap (λ (a : ofSplit.Answer). offer_at a.branches i) splits ∙ offers_none lanes false wide_zeros c.readies refl i)
+        (ap (λ (a : SplitCycle). offer_at a.branches i) splits ∙ offers_none lanes false wide_zeros c.readies refl i)
         ∙ sym (ap (handed (offer_at c.inputs i)) (no_entry false (λ j. false) 0 i (omega arith) (omega arith)) ∙ unready (offer_at c.inputs i))
 
     -- it is not, and so neither is the split
@@ -141,14 +145,14 @@ same_cycle_lem lanes i c =
     accepted l s splits =
         let m = ofMerge.cycle lanes c.inputs c.split.ready in
         let past : strobe_past lanes m.wide ≡ false =
-        ap (λ (a : ofMerge.Answer). strobe_past lanes a.wide) (sym (merge_accepts lanes c.inputs c.split.ready l s))
+        ap (λ (a : MergeCycle). strobe_past lanes a.wide) (sym (merge_accepts lanes c.inputs c.split.ready l s))
         ∙ no_strobe_past lanes c.inputs c.split.ready in
         let cycles : c.split ≡ ofSplit.cycle lanes m.valid m.wide c.readies = splits ∙ split_accepts lanes m.valid m.wide c.readies l past in
-        ap (λ (a : ofSplit.Answer). handed (offer_at a.branches i) (ready_at c.readies i)) cycles
+        ap (λ (a : SplitCycle). handed (offer_at a.branches i) (ready_at c.readies i)) cycles
         ∙ cycle_same lanes c.inputs c.readies l s i
         ∙ sym
         (ap (λ (ready : Bool). handed (offer_at c.inputs i) (ready_at (ofMerge.cycle lanes c.inputs ready).readies i))
-        (ap (λ (a : ofSplit.Answer). a.ready) cycles))
+        (ap (λ (a : SplitCycle). a.ready) cycles))
 
 pub same_order_lem : SameOrder
 same_order_lem lanes i [] = refl
@@ -157,28 +161,28 @@ same_order_lem lanes i (c ∷ cs) = ap₂ (λ (ps qs : List Payload). ps ++ qs) 
 -- a split's ready does not depend on what its source shows, so that the wire closes
 pub wires : Wires
 wires lanes inputs readies = (
-  record { inputs = inputs; readies = readies; merge = merge; split = split; merges = ap (ofMerge.answer lanes inputs) same; splits = refl },
+  record {
+    inputs = inputs;
+    readies = readies;
+    merge = merge;
+    split = split;
+    merges = ap (λ (b : Bool). (ofMerge.answer lanes inputs b).outputs) same;
+    splits = refl;
+  },
   refl,
   refl,
 )
   where
     ready : Bool
-    ready = (ofSplit.answer lanes false wide_zeros readies).ready
+    ready = (ofSplit.answer lanes false wide_zeros readies).outputs.ready
 
-    merge : ofMerge.Answer
-    merge = ofMerge.answer lanes inputs ready
+    merge : MergeCycle
+    merge = (ofMerge.answer lanes inputs ready).outputs
 
-    split : ofSplit.Answer
-    split = ofSplit.answer lanes merge.valid merge.wide readies
-
-    ready_in : ofSplit.Answer → Bool
-    ready_in a = a.ready
+    split : SplitCycle
+    split = (ofSplit.answer lanes merge.valid merge.wide readies).outputs
 
     same : ready ≡ split.ready
     same =
-        ⊎_elim
-        (λ l. ap ready_in (split_accepts lanes false wide_zeros readies l (lt-leb (16 ^ lanes) 0 (pow_pos lanes)))
-        ∙ sym (ap ready_in (split_accepts lanes merge.valid merge.wide readies l (no_strobe_past lanes inputs ready))))
-        (λ l. ap ready_in (split_refuses_lanes lanes false wide_zeros readies l)
-        ∙ sym (ap ready_in (split_refuses_lanes lanes merge.valid merge.wide readies l)))
-        (either (legal_lanes lanes))
+        ready_is lanes false wide_zeros readies (lt-leb (16 ^ lanes) 0 (pow_pos lanes))
+        ∙ sym (ready_is lanes merge.valid merge.wide readies (no_strobe_past lanes inputs ready))

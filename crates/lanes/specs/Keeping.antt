@@ -4,7 +4,9 @@ use Rattle.std.specs.Prelude.{ℕ, suc, ◌<◌, Bool, true, false, List, ◌≡
 use Rattle.signals.specs.Stream.{Sample}
 use Rattle.signals.specs.Tables.{NoneIn}
 use Rattle.stream_checker.specs.Rules.{stalled, rules}
+use Rattle.lanes.specs.declared.MergeCycle.{MergeCycle}
 use Rattle.lanes.specs.declared.Offer.{Offer}
+use Rattle.lanes.specs.declared.SplitCycle.{SplitCycle}
 use Rattle.lanes.specs.declared.Wide.{Wide}
 use Rattle.lanes.specs.Offers.{offer_at}
 use Rattle.lanes.specs.Wide.{lane}
@@ -28,8 +30,8 @@ pub record Merging : Type 0 where
   pub ready : Bool
 
 module _ (lanes : ℕ) (given : ℕ → Merging) where
-  abbrev pub merge_in : ℕ → ofMerge.Answer
-  merge_in c = ofMerge.answer lanes (given c).inputs (given c).ready
+  abbrev pub merge_in : ℕ → MergeCycle
+  merge_in c = (ofMerge.answer lanes (given c).inputs (given c).ready).outputs
 
   -- input i, judged with the ready that the merge gives it
   abbrev pub input_trace : (i : ℕ) → ℕ → Sample
@@ -60,8 +62,8 @@ pub record Splitting : Type 0 where
   pub readies : List Bool
 
 module _ (lanes : ℕ) (given : ℕ → Splitting) where
-  abbrev pub split_in : ℕ → ofSplit.Answer
-  split_in c = ofSplit.answer lanes (given c).valid (given c).wide (given c).readies
+  abbrev pub split_in : ℕ → SplitCycle
+  split_in c = (ofSplit.answer lanes (given c).valid (given c).wide (given c).readies).outputs
 
   abbrev pub branch_trace : (i : ℕ) → ℕ → Sample
   branch_trace i c = seen (offer_at (split_in c).branches i) (ready_at (given c).readies i)

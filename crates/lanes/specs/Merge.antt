@@ -1,13 +1,13 @@
 -- Request T-01: one cycle of a merge. It shows valid when all inputs are valid, and each input gets ready when the output is ready and
 -- all inputs are valid. Assumes nothing.
 use Rattle.std.specs.Prelude.{ℕ, Bool, false, cond, not, ◌&&◌, List, [], ◌∷◌}
-use Rattle.std.proofs.Math.Option.{Option, none, some}
 use Rattle.signals.specs.declared.Payload.{Payload}
 use Rattle.signals.specs.Payloads.{legal_strb}
 use Rattle.signals.specs.Sequences.{every_below}
 use Rattle.signals.specs.Tables.{Row, ◌⇐◌, first_applying}
+use Rattle.lanes.specs.declared.MergeCycle.{MergeCycle}
 use Rattle.lanes.specs.declared.Offer.{Offer}
-use Rattle.lanes.specs.declared.Wide.{Wide}
+use Rattle.lanes.specs.Answers.{Answer, answer_by}
 use Rattle.lanes.specs.Lanes.{legal_lanes, per_lane}
 use Rattle.lanes.specs.Offers.{offer_at}
 use Rattle.lanes.specs.Wide.{together, wide_zeros}
@@ -23,36 +23,23 @@ all_valid lanes inputs = every_below (λ i. (offer_at inputs i).valid) lanes
 abbrev pub legal_strobes : (lanes : ℕ) → List Offer → Bool
 legal_strobes lanes inputs = every_below (λ i. legal_strb (payload_at inputs i)) lanes
 
--- What a merge answers: its refusal if it is refused, what it shows its output, and the ready of each input.
-pub record Answer : Type 0 where
-  pub refusal : Option ℕ
-  pub valid : Bool
-  pub wide : Wide
-  pub readies : List Bool
-
--- a cycle that is not refused
-abbrev pub cycle : (lanes : ℕ) → (inputs : List Offer) → (ready : Bool) → Answer
+-- a cycle that is not refused: what it shows its output, and the ready of each input
+abbrev pub cycle : (lanes : ℕ) → (inputs : List Offer) → (ready : Bool) → MergeCycle
 cycle lanes inputs ready =
     record {
-      refusal = none;
       valid = all_valid lanes inputs;
       wide = cond (all_valid lanes inputs) (together lanes (payload_at inputs)) wide_zeros;
       readies = per_lane lanes false (λ i. ready && all_valid lanes inputs);
     }
 
--- refused, every output is 0
-abbrev pub refused : (number : ℕ) → Answer
-refused number =
-    record { refusal = some number; valid = false; wide = wide_zeros; readies = per_lane 0 false (λ i. false) }
+-- every output is 0
+abbrev pub zeros : MergeCycle
+zeros = record { valid = false; wide = wide_zeros; readies = per_lane 0 false (λ i. false) }
 
 -- the grounds for refusing it, in the order in which they are tried
 abbrev pub grounds : (lanes : ℕ) → (inputs : List Offer) → List (Row ℕ)
 grounds lanes inputs = 5 ⇐ not (legal_lanes lanes) ∷ 2 ⇐ not (legal_strobes lanes inputs) ∷ []
 
-abbrev pub answer_by : (refusal : Option ℕ) → (lanes : ℕ) → (inputs : List Offer) → (ready : Bool) → Answer
-answer_by none lanes inputs ready = cycle lanes inputs ready
-answer_by (some number) lanes inputs ready = refused number
-
 -- what `merge` answers to any inputs
-unfoldable pub answer : (lanes : ℕ) → (inputs : List Offer) → (ready : Bool) → Answer
-answer lanes inputs ready = answer_by (first_applying (grounds lanes inputs)) lanes inputs ready
+unfoldable pub answer : (lanes : ℕ) → (inputs : List Offer) → (ready : Bool) → Answer MergeCycle
+answer lanes inputs ready = answer_by (first_applying (grounds lanes inputs)) zeros (cycle lanes inputs ready)

@@ -41,13 +41,13 @@ behind qs i = get_or qs i (empty (plain 0))
 -- What the FIFO behind branch i answers to the split's offer, where the split is given the FIFOs' readies.
 abbrev pub fifo_in : (lanes : ℕ) → List Queue → (valid : Bool) → Wide → (i : ℕ) → (sink : Bool) → ofFifo.Answer
 fifo_in lanes qs valid wide i sink =
-    let offer : Offer = offer_at (answer lanes valid wide (map ready qs)).branches i in
+    let offer : Offer = offer_at (answer lanes valid wide (map ready qs)).outputs.branches i in
     step_of (well (behind qs i)) offer.valid offer.payload sink false
 
 -- The source gets ready whether it is valid or not; what it shows goes into the FIFOs in this very cycle, each its lane; and in the next
 -- each FIFO shows its sink a payload, whether that sink is ready or not.
 pub record TakenAtOnce (lanes : ℕ) (qs : List Queue) (wide : Wide) : Type 0 where
-  pub source_ready : (valid : Bool) → (answer lanes valid wide (map ready qs)).ready ≡ true
+  pub source_ready : (valid : Bool) → (answer lanes valid wide (map ready qs)).outputs.ready ≡ true
   -- the readies that the split is given are those that the FIFOs answer in this cycle
   pub wired : (valid : Bool) (i : ℕ) → i < lanes → (sink : Bool) → (fifo_in lanes qs valid wide i sink).ready ≡ ready_at (map ready qs) i
   pub joins : (i : ℕ) → i < lanes → (sink : Bool) →

@@ -3,7 +3,9 @@
 use Rattle.std.specs.Prelude.{ℕ, ◌<◌, ◌≤◌, ◌^◌, Bool, true, cond, ◌&&◌, List, [], ◌∷◌, ◌++◌, ◌≡◌, length, get_or}
 use Rattle.signals.specs.declared.Payload.{Payload}
 use Rattle.signals.specs.Payloads.{legal_strb}
+use Rattle.lanes.specs.declared.MergeCycle.{MergeCycle}
 use Rattle.lanes.specs.declared.Offer.{Offer}
+use Rattle.lanes.specs.declared.SplitCycle.{SplitCycle}
 use Rattle.lanes.specs.declared.Wide.{Wide}
 use Rattle.lanes.specs.Lanes.{max_lanes}
 use Rattle.lanes.specs.Offers.{offer_at}
@@ -16,10 +18,10 @@ use Rattle.lanes.specs.Split.{ready_at}
 pub record Cycle (lanes : ℕ) : Type 0 where
   pub inputs : List Offer
   pub readies : List Bool
-  pub merge : ofMerge.Answer
-  pub split : ofSplit.Answer
-  pub merges : merge ≡ ofMerge.answer lanes inputs split.ready
-  pub splits : split ≡ ofSplit.answer lanes merge.valid merge.wide readies
+  pub merge : MergeCycle
+  pub split : SplitCycle
+  pub merges : merge ≡ (ofMerge.answer lanes inputs split.ready).outputs
+  pub splits : split ≡ (ofSplit.answer lanes merge.valid merge.wide readies).outputs
 
 -- the payload that is handed over, if there is a handshake
 abbrev pub handed : Offer → (ready : Bool) → List Payload

@@ -1,8 +1,9 @@
 // What a split reads of its source and of its branches, and what it offers them.
-ghost use Rattle.std.specs.Prelude.{◌≡◌, ◌<◌, length};
+ghost use Rattle.std.specs.Prelude.{◌≡◌, ◌<◌};
+ghost use Rattle.std.specs.List.{list_all};
 ghost use Rattle.lanes.specs.Lanes.{max_lanes, count_of, per_lane};
 ghost use Rattle.lanes.specs.Wide.{lane};
-ghost use Rattle.lanes.specs.Split.{strobe_past, all_ready};
+ghost use Rattle.lanes.specs.Split.{strobe_past};
 ghost use Rattle.lanes.specs.Offers.{no_offer, offer_when};
 
 use super::strobes::{STROBES, weight};
@@ -14,23 +15,24 @@ use std::array::from_fn;
 pub(crate) fn has_strobe_past(lanes: Lanes, wide: Wide) -> bool
     ensures { result ≡ strobe_past (count_of lanes) wide }
 {
-    wide.strb as u32 >= weight(lanes.count())
+    u32::from(wide.strb) >= weight(lanes.count())
 }
 
 pub(crate) fn all_ready(used: &[bool]) -> bool
-    ensures { result ≡ all_ready (length used.now) used.now }
+    ensures { result ≡ list_all (λ ready. ready) used.now }
 {
     used.iter().all(|ready| *ready)
 }
 
-// Lane i of a wide payload.
+// Lane i of a wide payload. By the index, which says where its strobes lie too.
+#[tactic(auto, using(crate::proofs::Digits::pow_pos))]
 fn lane(wide: Wide, i: usize) -> Payload
     requires { i < max_lanes }
     ensures { result ≡ lane wide i }
 {
     Payload {
         data: wide.data[i],
-        strb: (wide.strb as u32 / weight(i) % STROBES) as u8,
+        strb: (u32::from(wide.strb) / weight(i) % STROBES) as u8,
     }
 }
 

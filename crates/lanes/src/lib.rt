@@ -11,7 +11,7 @@ ghost use Rattle.std.specs.Prelude.{◌≡◌, ◌≤◌};
 ghost use Rattle.lanes.specs.Lanes.{max_lanes, count_of, Counted};
 ghost use Rattle.lanes.specs.Merge as ofMerge;
 ghost use Rattle.lanes.specs.Split as ofSplit;
-ghost use Rattle.lanes.specs.Promises.{merge_answer, split_answer};
+ghost use Rattle.lanes.specs.Answers.{answer_of};
 
 use branches::{all_ready, has_strobe_past, offers};
 use inputs::{all_valid, given, has_legal_strobes, together};
@@ -20,7 +20,8 @@ use signals::{Payload, Refusal, ZEROS};
 // The most lanes of a wide stream.
 pub const MAX_LANES: usize = 4;
 
-// What a stream's source offers in one cycle: valid beside the payload, as C is handed them: zeros where it is 0.
+// What a stream's source offers in one cycle. Valid stands beside the payload, two wires, both of which C hands over: an input may show
+// any payload with valid 0, and its strobes are looked at even then (`legal_strobes`). Only what a split offers has zeros there.
 #[repr(C)]
 #[derive(Clone, Copy)]
 pub struct Offer {
@@ -29,6 +30,7 @@ pub struct Offer {
 }
 
 // What a wide stream carries in one cycle: a word for each lane, lane 0 first, and four strobe bits for each, those of lane 0 lowest.
+// An array of four and a number of 16 bits are C's layout: with two lanes the last two words are not used.
 #[repr(C)]
 #[derive(Clone, Copy)]
 pub struct Wide {
@@ -36,7 +38,7 @@ pub struct Wide {
     pub strb: u16,
 }
 
-// What is offered, and what is shown, when valid is 0.
+// What is offered, and what is shown, when valid is 0: constants, which a `Default` would not be.
 const NO_OFFER: Offer = Offer {
     valid: false,
     payload: ZEROS,
@@ -47,8 +49,8 @@ const NOTHING: Wide = Wide {
     strb: 0,
 };
 
-// What a merge shows its output, and the ready that it gives each input: valid beside the payload, as C is handed them: zeros where it
-// is 0.
+// What a merge shows its output, and the ready that it gives each input. valid beside the wide word, with zeros where it is 0, as a split
+// is given both (`Cycle` of `specs/Wired.antt`).
 #[derive(Clone, Copy)]
 pub struct MergeCycle {
     pub valid: bool,
@@ -109,9 +111,11 @@ impl Lanes {
     }
 }
 
-// One cycle of a merge. Only the first `lanes` inputs are read.
+// One cycle of a merge. Only the first `lanes` inputs are read: a number beside four inputs, as C gives them, so that another number than
+// 2 and 4 is refused with 5 (`grounds` of `ofMerge.answer`).
+#[tactic(auto, unfolding(crate::specs::Merge::answer), using(crate::proofs::Used::inputs_used))]
 pub fn merge(lanes: u8, inputs: [Offer; MAX_LANES], ready: bool) -> Result<MergeCycle, Refusal>
-    ensures { merge_answer result ≡ ofMerge.answer lanes inputs ready }
+    ensures { answer_of ofMerge.zeros result ≡ ofMerge.answer lanes inputs ready }
 {
     let lanes = Lanes::try_from(lanes)?;
     let used = &inputs[..lanes.count()];
@@ -126,14 +130,16 @@ pub fn merge(lanes: u8, inputs: [Offer; MAX_LANES], ready: bool) -> Result<Merge
     })
 }
 
-// One cycle of a split. Only the first `lanes` words and readies are read.
+// One cycle of a split. Only the first `lanes` words and readies are read: a number beside four of each, as C gives them, so that another
+// number than 2 and 4 is refused with 5 (`grounds` of `ofSplit.answer`).
+#[tactic(auto, unfolding(crate::specs::Split::answer), using(crate::proofs::Used::all_first))]
 pub fn split(
     lanes: u8,
     valid: bool,
     wide: Wide,
     readies: [bool; MAX_LANES],
 ) -> Result<SplitCycle, Refusal>
-    ensures { split_answer result ≡ ofSplit.answer lanes valid wide readies }
+    ensures { answer_of ofSplit.zeros result ≡ ofSplit.answer lanes valid wide readies }
 {
     let lanes = Lanes::try_from(lanes)?;
     if has_strobe_past(lanes, wide) {

@@ -6,6 +6,7 @@ ghost use Rattle.lanes.specs.Lanes.{max_lanes};
 pub(crate) const STROBES: u32 = 16;
 
 // What the lowest strobe of lane i counts for in strb, and last what one past four lanes would.
+#[tactic(auto, using(crate::proofs::Digits::pow_few))]
 pub(crate) fn weight(i: usize) -> u32
     requires { i ≤ max_lanes }
     ensures { result ≡ 16 ^ i }
