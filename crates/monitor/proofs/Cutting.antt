@@ -7,7 +7,7 @@ use mathlib.Core.Bool.{Bool, false}
 use mathlib.Core.List.{List, [], ◌∷◌, ◌++◌}
 use mathlib.Core.Logic.{◌⊎◌, inl, inr, ⊎_elim}
 use mathlib.Core.Option.{Option, none, some}
-use mathlib.Core.Path.{◌≡◌, refl, sym, ◌∙◌, ap, subst}
+use mathlib.Core.Path.{◌≡◌, refl, sym, ◌∙◌, ap}
 use lib.Dec.{ltb}
 use lib.ListN.{length, get_or, length-append, get_or-append}
 use lib.Seq.{get_or-append-add}
@@ -26,9 +26,8 @@ use Rattle.stream_checker.specs.Verdicts as whole
 use Rattle.stream_checker.specs.Verdicts.{handshake_at, clear_at, Answer, answer_below, check_stream}
 use Rattle.stream_checker.proofs.Judged.{sight_from_start}
 use Rattle.monitor.specs.declared.Monitor.{Monitor}
-use Rattle.monitor.specs.declared.Monitor.Monitor.{seq, cycles, verdict, rule, cycle, handshakes, clears}
-use Rattle.monitor.specs.Bursts.{max_seen, grounds, unless_refused, fed_by}
-use Rattle.monitor.specs.Cycle.{one_more, after_cycles}
+use Rattle.monitor.specs.Bursts.{max_seen, grounds, fed_by}
+use Rattle.monitor.specs.Cycle.{after_cycles}
 use Rattle.monitor.specs.Record.{fresh}
 use Rattle.monitor.specs.Theorems.{Burst, after, taken, joined, Says, AnyCutting, AsOneBurst}
 use Rattle.monitor.proofs.Following.{Stands, stands}
@@ -38,13 +37,12 @@ use Rattle.monitor.proofs.Judged.{legal_clean}
 -- cycles that are the same make the same record
 cycles_same : (m : Monitor) (s t : ℕ → Sample) (n : ℕ) → ((c : ℕ) → c < n → s c ≡ t c) → after_cycles m s n ≡ after_cycles m t n
 cycles_same m s t zero h = refl
-cycles_same m s t (suc n) h =
-    ap (λ (r : Monitor). one_more r (s n)) (cycles_same m s t n (λ c l. h c (omega (arith, l)))) ∙ ap (one_more (after_cycles m t n)) (h n (omega arith))
+cycles_same m s t (suc n) h = rw (cycles_same m s t n (λ c l. h c (omega (arith, l))), h n (omega arith))
 
 -- cycles and more cycles are taken one after another
 cycles_split : (m : Monitor) (s : ℕ → Sample) (a k : ℕ) → after_cycles m s (a + k) ≡ after_cycles (after_cycles m s a) (λ c. s (a + c)) k
 cycles_split m s a zero = rw (add-zero a)
-cycles_split m s a (suc k) = rw (add-suc a k) (ap (λ (r : Monitor). one_more r (s (a + k))) (cycles_split m s a k))
+cycles_split m s a (suc k) = rw (add-suc a k, cycles_split m s a k)
 
 -- the cycles of one burst, and behind them those of another
 module _ (xs ys us vs : List ℕ) (same : length xs ≡ length us) where
@@ -62,11 +60,12 @@ module _ (xs ys us vs : List ℕ) (same : length xs ≡ length us) where
       (m : Monitor) (k : ℕ) →
       after_cycles m (sample_at (xs ++ ys) (us ++ vs)) (length xs + k) ≡ after_cycles (after_cycles m (sample_at xs us) (length xs)) (sample_at ys vs) k
   both_bursts m k =
-      cycles_split m (sample_at (xs ++ ys) (us ++ vs)) (length xs) k
-      ∙ ap (λ (r : Monitor). after_cycles r (λ c. sample_at (xs ++ ys) (us ++ vs) (length xs + c)) k)
-      (cycles_same m (sample_at (xs ++ ys) (us ++ vs)) (sample_at xs us) (length xs) first_there)
-      ∙ cycles_same (after_cycles m (sample_at xs us) (length xs)) (λ c. sample_at (xs ++ ys) (us ++ vs) (length xs + c)) (sample_at ys vs) k
-      (λ c l. later_there c)
+      rw (
+        cycles_split m (sample_at (xs ++ ys) (us ++ vs)) (length xs) k,
+        cycles_same m (sample_at (xs ++ ys) (us ++ vs)) (sample_at xs us) (length xs) first_there,
+      )
+      (cycles_same (after_cycles m (sample_at xs us) (length xs)) (λ c. sample_at (xs ++ ys) (us ++ vs) (length xs + c)) (sample_at ys vs) k
+      (λ c l. later_there c))
 
 -- what becomes of a burst: its cycles are taken one after another, or it is refused and the record stays
 record IsTaken (m : Monitor) (b : Burst) : Type 0 where
@@ -80,15 +79,8 @@ record IsRefused (m : Monitor) (b : Burst) : Type 0 where
 module _ (m : Monitor) (b : Burst) where
   by_ground : (ground : Option Refusal) → first_applying (grounds m b.controls b.words) ≡ ground → IsTaken m b ⊎ IsRefused m b
   unfolding fed_by
-  by_ground none e =
-      let next = after_cycles m (sample_at b.controls b.words) (length b.controls) in
-      inl (record {
-        same = eqb-true _ _ (not-false _ (none_keeps (grounds m b.controls b.words) e).0);
-        fed = ap (λ (o : Option Refusal). unless_refused o next) e;
-      })
-  by_ground (some why) e =
-      let next = after_cycles m (sample_at b.controls b.words) (length b.controls) in
-      inr (record { why = why; fed = ap (λ (o : Option Refusal). unless_refused o next) e })
+  by_ground none e = inl (record { same = eqb-true _ _ (not-false _ (none_keeps (grounds m b.controls b.words) e).0); fed = rw e })
+  by_ground (some why) e = inr (record { why = why; fed = rw e })
 
   taken_or_refused : IsTaken m b ⊎ IsRefused m b
   taken_or_refused = by_ground (first_applying (grounds m b.controls b.words)) refl
@@ -139,25 +131,25 @@ module _ (seq_on : Bool) (controls words : List ℕ) (n : ℕ) where
 
   is_found : (f : Finding RuleName) (r : Monitor) → Stands (fresh seq_on) controls words n f r → IsFound f r
   is_found clean r e =
-      record {
-        switch = ap seq e;
-        seen = ap cycles e ∙ zero-add n;
-        verdict_is = ap verdict e;
-        rule_is = ap rule e;
-        cycle_is = ap cycle e;
-        counted = ap handshakes e ∙ zero-add (count_below (handshake_at (sample_at controls words)) n);
-        cleared = ap clears e ∙ zero-add (count_below (clear_at (sample_at controls words)) n);
-      }
+      rw e (record {
+        switch = refl;
+        seen = zero-add n;
+        verdict_is = refl;
+        rule_is = refl;
+        cycle_is = refl;
+        counted = zero-add _;
+        cleared = zero-add _;
+      })
   is_found (broken name c) r e =
-      record {
-        switch = ap seq e;
-        seen = ap cycles e ∙ zero-add n;
-        verdict_is = ap verdict e;
-        rule_is = ap rule e;
-        cycle_is = ap cycle e ∙ zero-add c;
-        counted = ap handshakes e ∙ zero-add (count_below (handshake_at (sample_at controls words)) c);
-        cleared = ap clears e ∙ zero-add (count_below (clear_at (sample_at controls words)) c);
-      }
+      rw e (record {
+        switch = refl;
+        seen = zero-add n;
+        verdict_is = refl;
+        rule_is = refl;
+        cycle_is = zero-add c;
+        counted = zero-add _;
+        cleared = zero-add _;
+      })
 
   -- from a fresh record on, the record stands for the whole trace
   abbrev last : Monitor
@@ -169,28 +161,24 @@ module _ (seq_on : Bool) (controls words : List ℕ) (n : ℕ) where
   one_burst_says : Says last (answer_below seq_on (sample_at controls words) n)
   one_burst_says =
       let is = found_in_all in
-      let same = sight_from_start controls words seq_on n in
-      record {
+      rw (← sight_from_start controls words seq_on n)
+      (record {
         found = finding_below (rules_from start controls words seq_on) n;
-        is_found = sym (ap (λ (a : Answer). a.judgement.verdict) same);
+        is_found = refl;
         verdict = is.verdict_is;
         rule = is.rule_is;
         cycle = is.cycle_is;
-        handshakes = is.counted ∙ ap (λ (a : Answer). a.judgement.handshakes) same;
-        clears = is.cleared ∙ ap (λ (a : Answer). a.clears) same;
-      }
+        handshakes = is.counted;
+        clears = is.cleared;
+      })
 
 pub any_cutting_lem : AnyCutting
 any_cutting_lem seq_on bursts =
     let trace = joined (taken (fresh seq_on) bursts) in
     let n = length trace.controls in
-    let ends = (after_joined bursts (fresh seq_on)).ends in
     let is = found_in_all seq_on trace.controls trace.words n in
-    record {
-      switch = ap seq ends ∙ is.switch;
-      seen = ap cycles ends ∙ is.seen;
-      says = subst (λ (m : Monitor). Says m (answer_below seq_on (sample_at trace.controls trace.words) n)) (sym ends) (one_burst_says seq_on trace.controls trace.words n);
-    }
+    rw (after_joined bursts (fresh seq_on)).ends
+    (record { switch = is.switch; seen = is.seen; says = one_burst_says seq_on trace.controls trace.words n })
 
 pub as_one_burst_lem : AsOneBurst
 unfolding fed_by check_stream

@@ -7,7 +7,6 @@ use mathlib.Core.Bool.{Bool, true, false, cond, not, ◌&&◌}
 use mathlib.Core.List.{List}
 use mathlib.Core.Option.{Option, none, some}
 use mathlib.Core.Path.{◌≡◌, refl, sym, ◌∙◌, ap}
-use lib.Dec.{eqb}
 use lib.ListN.{get_or}
 use Rattle.std.specs.Prelude as std
 use Rattle.std.specs.Prelude.{Some, None, is_some, unwrap_or}
@@ -17,13 +16,12 @@ use Rattle.signals.specs.Stream.{Sample, sample, sample_at, clear_cycle, handsha
 use Rattle.signals.specs.Tables.{Row, first_applying}
 use Rattle.signals.specs.Written.{RuleName}
 use Rattle.signals.specs.declared.Payload.{Payload}
-use Rattle.stream_checker.specs.Rules.{stalled, breaks_held, breaks_stable, counter, after_counter, carries_counter, in_order, unless_clear}
-use Rattle.stream_checker.specs.Step as watched
+use Rattle.stream_checker.specs.Rules.{stalled, counter, after_counter, carries_counter}
 use Rattle.stream_checker.specs.Step.{before, rules_after, next, watch_after, rules_from}
 use Rattle.stream_checker.specs.Verdicts.{handshake_at, clear_at}
 use Rattle.stream_checker.specs.declared.watch.Watch.{Watch}
 use Rattle.monitor.specs.declared.Monitor.{Monitor}
-use Rattle.monitor.specs.Cycle.{last_seen, not_due, rules_next, passed, seen_only, judged_next, one_more, after_cycles}
+use Rattle.monitor.specs.Cycle.{rules_next, passed, judged_next, one_more, after_cycles}
 use Rattle.monitor.specs.Step.{watch_of, clean_with, kept, broken_in, with_cycles}
 use Rattle.monitor.proofs.Legal.{Clean}
 use Rattle.monitor.proofs.Stall.{stall_sample}
@@ -39,9 +37,9 @@ stable_alike true valid p q = refl
 stable_alike false valid p q = refl
 
 -- and the counter due only where one is kept
-due_alike : (due : std.Option ℕ) (n : ℕ) → is_some due && not (eqb n (unwrap_or due 0)) ≡ watched.not_due due n
-due_alike None n = refl
-due_alike (Some due) n = refl
+due_alike : (due : std.Option ℕ) → cond (is_some due) (Some (unwrap_or due 0)) None ≡ due
+due_alike None = refl
+due_alike (Some due) = refl
 
 -- a counter is kept after a cycle, and due, in a record as in a watch
 counted_alike :
@@ -62,14 +60,7 @@ due_next_alike false false next due = refl
 module _ (seq_on : Bool) (cycles handshakes clears : ℕ) (w : Watch) where
   rules_alike : (now : Sample) → rules_next (kept seq_on cycles handshakes clears w) now ≡ rules_after w now seq_on
   rules_alike now =
-      let s = stalled (before w) in
-      let m = kept seq_on cycles handshakes clears w in
-      let stable = stable_alike s now.valid (before w).payload now.payload in
-      ap (unless_clear now)
-      (ap (λ (b : Bool). in_order seq_on b (breaks_stable (last_seen m) now) (carries_counter now && not_due m (counter now))) (held_alike s now.valid)
-      ∙ ap (λ (b : Bool). in_order seq_on (breaks_held (before w) now) b (carries_counter now && not_due m (counter now))) stable
-      ∙ ap (λ (b : Bool). in_order seq_on (breaks_held (before w) now) (breaks_stable (before w) now) (carries_counter now && b))
-      (due_alike w.due (counter now)))
+      let s = stalled (before w) in rw (held_alike s now.valid, stable_alike s now.valid (before w).payload now.payload, due_alike w.due)
 
   passed_alike :
       (control word : ℕ) →
@@ -160,8 +151,7 @@ module _ (m : Monitor) (controls words : List ℕ) where
   -- the next cycle of the clean record is judged by what the watch finds
   judged_in : (n : ℕ) (o : Option RuleName) (r : Monitor) → first_applying (rules n) ≡ o → r ≡ kept_in n → one_more r (trace n) ≡ judged_next (kept_in n) (trace n) o
   judged_in n o r e s =
-      ap (λ (x : Monitor). one_more x (trace n)) s
-      ∙ ap (judged_next (kept_in n) (trace n)) (ap first_applying (rules_alike m.seq (m.cycles + n) (handshakes_in n) (clears_in n) (watch_in n) (trace n)) ∙ e)
+      rw (s, rules_alike m.seq (m.cycles + n) (handshakes_in n) (clears_in n) (watch_in n) (trace n), e)
 
   stands_next : (n : ℕ) (f : Finding RuleName) (o : Option RuleName) (r : Monitor) → first_applying (rules n) ≡ o → Stands n f r → Stands (suc n) (found f o n) (one_more r (trace n))
   stands_next n clean none r e s =
@@ -169,10 +159,8 @@ module _ (m : Monitor) (controls words : List ℕ) where
       ∙ passed_alike m.seq (m.cycles + n) (handshakes_in n) (clears_in n) (watch_in n) (get_or controls n 0) (get_or words n 0)
       ∙ (λ i. kept m.seq (seen_more n i) (counted_more (handshake_at trace) m.handshakes n i) (counted_more (clear_at trace) m.clears n i)
       (watch_in (suc n)))
-  stands_next n clean (some rule) r e s =
-      judged_in n (some rule) r e s ∙ ap (λ (c : ℕ). broken_in m c (handshakes_in n) (clears_in n) rule n) (seen_more n)
-  stands_next n (broken rule c) o r e s =
-      ap (λ (x : Monitor). one_more x (trace n)) s ∙ ap (λ (k : ℕ). broken_in m k (handshakes_in c) (clears_in c) rule c) (seen_more n)
+  stands_next n clean (some rule) r e s = rw (judged_in n (some rule) r e s, seen_more n)
+  stands_next n (broken rule c) o r e s = rw (s, seen_more n)
 
   pub stands : Clean m → (n : ℕ) → Stands n (finding_below rules n) (after_cycles m trace n)
   stands c zero = sym (rw (add-zero m.cycles, add-zero m.handshakes, add-zero m.clears) (kept_back m c))
@@ -181,8 +169,4 @@ module _ (m : Monitor) (controls words : List ℕ) where
   -- a record that is broken stays so, and only the cycles grow
   pub stays : m.verdict ≡ 2 → (n : ℕ) → after_cycles m trace n ≡ with_cycles m (m.cycles + n)
   stays e zero = ap (with_cycles m) (sym (add-zero m.cycles))
-  stays e (suc n) =
-      let r = with_cycles m (m.cycles + n) in
-      ap (λ (x : Monitor). one_more x (trace n)) (stays e n)
-      ∙ ap (λ (v : ℕ). cond (eqb v 1) (judged_next r (trace n) (first_applying (rules_next r (trace n)))) (seen_only r)) e
-      ∙ ap (with_cycles m) (seen_more n)
+  stays e (suc n) = rw (stays e n, e, seen_more n)

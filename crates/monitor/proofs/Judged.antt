@@ -1,6 +1,6 @@
 -- What the checker's loop sees of a burst, put back into the record, is the record that the rules give: by `stands`, with what is found.
 -- Assumes nothing.
-use Prim.Native.Nat.{ℕ, ◌+◌, min}
+use Prim.Native.Nat.{ℕ, ◌+◌}
 use mathlib.Core.Bool.{true}
 use mathlib.Core.List.{List}
 use mathlib.Core.Logic.{⊎_elim}
@@ -11,7 +11,7 @@ use Rattle.signals.specs.Judging.{Finding, clean, broken, count_below, finding_b
 use Rattle.signals.specs.Stream.{sample_at}
 use Rattle.signals.specs.Written.{RuleName}
 use Rattle.stream_checker.specs.Rules.{stalled}
-use Rattle.stream_checker.specs.Step.{before, watch_after, rules_from, sight_below, finding_of, sight_of}
+use Rattle.stream_checker.specs.Step.{common_length, before, watch_after, rules_from, sight_below, finding_of, sight_of}
 use Rattle.stream_checker.specs.Step.Sight.{finding, handshakes, clears, watch}
 use Rattle.stream_checker.specs.Verdicts.{handshake_at, clear_at}
 use Rattle.stream_checker.specs.Written.{rule_name}
@@ -30,10 +30,11 @@ use Rattle.monitor.proofs.Legal.{Clean, legal_says}
 pub legal_clean : (m : Monitor) → legal m ≡ true → (m.verdict ≡ 2 → ⊥) → Clean m
 legal_clean m e q = ⊎_elim (λ c. c) (λ b. absurd (q b.verdict)) (legal_says m e)
 
-module _ (m : Monitor) (c : Clean m) (seen : Seen) (w : Watch) (is-watch : w ≡ watch_of m) (controls words : List ℕ) (same : length controls ≡ length words)
-    (sees : sight_of seen ≡ sight_below w controls words m.seq (min (length controls) (length words))) where
+module _ {m : Monitor} (c : Clean m) (seen : Seen) {w : Watch} (is-watch : w ≡ watch_of m)
+    (controls words : List ℕ) (same : length controls ≡ length words)
+    (sees : sight_of seen ≡ sight_below w controls words m.seq (common_length controls words)) where
   sees_from : sight_of seen ≡ sight_below (watch_of m) controls words m.seq (length controls)
-  sees_from = sees_all seen w controls words m.seq same sees ∙ ap (λ (v : Watch). sight_below v controls words m.seq (length controls)) is-watch
+  sees_from = rw (← is-watch) (sees_all seen w controls words m.seq same sees)
 
   -- what is found, and the counts and the watch before it
   record Told (f : Finding RuleName) : Type 0 where

@@ -6,10 +6,10 @@ use mathlib.Core.Bool.{Bool, true, false, cond, not, ◌&&◌, false≢true}
 use mathlib.Core.List.{List, [], ◌∷◌}
 use mathlib.Core.Logic.{◌⊎◌, inl, inr, ⊎_elim}
 use mathlib.Core.Option.{Option, none, some}
-use mathlib.Core.Path.{◌≡◌, refl, sym, ap, subst}
-use lib.Dec.{eqb}
+use mathlib.Core.Path.{◌≡◌, refl, sym, subst}
 use lib.ListN.{length, get_or}
 use borrow.Author.Tests.{eq-eqb}
+use Rattle.std.specs.Prelude.{Some, None}
 use Rattle.signals.specs.Payloads.{zeros, max_strb}
 use Rattle.signals.specs.Stream.{Sample, sample_at, clear_cycle, handshake}
 use Rattle.signals.specs.Tables.{Row, first_applying}
@@ -18,9 +18,10 @@ use Rattle.signals.specs.declared.Payload.{Payload}
 use Rattle.signals.specs.declared.Refusal.{Refusal}
 use Rattle.signals.proofs.Bools.{both, clash}
 use Rattle.stream_checker.specs.Rules.{stalled, breaks_held, breaks_stable, counters, counter, after_counter, carries_counter, in_order, unless_clear}
+use Rattle.stream_checker.specs.Step.{not_due}
 use Rattle.monitor.specs.declared.Monitor.{Monitor}
-use Rattle.monitor.specs.Bursts.{grounds, unless_refused, fed_by, left_by}
-use Rattle.monitor.specs.Cycle.{last_seen, not_due, rules_next, passed, broken_by, seen_only, judged_next, one_more, after_cycles}
+use Rattle.monitor.specs.Bursts.{grounds, next_unless, fed_by, left_by}
+use Rattle.monitor.specs.Cycle.{last_seen, due_of, rules_next, passed, broken_by, seen_only, judged_next, one_more, after_cycles}
 use Rattle.monitor.specs.Record.{fresh, legal}
 use Rattle.monitor.specs.Theorems.{Burst, after, EachBelow, Recorded, Reached}
 use Rattle.monitor.proofs.Legal.{Clean, By, Broken, counts_among, legal_says, clean_legal, broken_legal}
@@ -100,10 +101,15 @@ adds_at_most_one false true true = omega arith
 adds_at_most_one false true false = omega arith
 adds_at_most_one false false ready = omega arith
 
+-- only where a counter was carried is another not due
+due_counted : (counted : Bool) (due n : ℕ) → not_due (cond counted (Some due) None) n ≡ true → counted ≡ true
+due_counted true due n e = refl
+due_counted false due n e = e
+
 module _ (m : Monitor) where
   -- the first rule that the next cycle breaks
   abbrev BreachNext : Sample → RuleName → Type 0
-  BreachNext now = FirstBroken m.seq (breaks_held (last_seen m) now) (breaks_stable (last_seen m) now) (carries_counter now && not_due m (counter now))
+  BreachNext now = FirstBroken m.seq (breaks_held (last_seen m) now) (breaks_stable (last_seen m) now) (carries_counter now && not_due (due_of m) (counter now))
 
   -- only after a stalled cycle is there a duty
   was_stalled : (duty : Bool) → m.stalled && true && duty ≡ true → m.stalled ≡ true
@@ -114,7 +120,7 @@ module _ (m : Monitor) where
   broken_by_lem c now r (is_held e) = inl (record { rule = inl refl; before = c.stalled_among (was_stalled _ e) })
   broken_by_lem c now r (is_stable e) = inl (record { rule = inr refl; before = c.stalled_among (was_stalled _ e) })
   broken_by_lem c now r (is_seq on e) =
-      let counted = (both m.counted _ (both (carries_counter now) _ e).1).0 in
+      let counted = due_counted m.counted m.due (counter now) (both (carries_counter now) _ e).1 in
       inr (record { rule = refl; switched = on; carried = c.carried counted; before = counts_among m c })
 
   -- a breach leaves a broken record
@@ -166,10 +172,10 @@ module _ (m : Monitor) where
 
   -- the next cycle of a clean record is judged, and that of a broken one only seen
   next_clean : m.verdict ≡ 1 → (now : Sample) → one_more m now ≡ judged_next m now (first_applying (rules_next m now))
-  next_clean e now = ap (λ (b : Bool). cond b (judged_next m now (first_applying (rules_next m now))) (seen_only m)) (eq-eqb m.verdict 1 e)
+  next_clean e now = rw (eq-eqb m.verdict 1 e)
 
   next_broken : m.verdict ≡ 2 → (now : Sample) → one_more m now ≡ seen_only m
-  next_broken e now = ap (λ (v : ℕ). cond (eqb v 1) (judged_next m now (first_applying (rules_next m now))) (seen_only m)) e
+  next_broken e now = rw e
 
   -- judged, a record is clean or broken
   judged_legal :
@@ -202,7 +208,7 @@ cycles_legal controls words b (suc n) m e =
 -- the record before and the next are legal, so the one of them that is kept is
 unless_legal :
     (ground : Option Refusal) (before next : Monitor) →
-    legal before ≡ true → legal next ≡ true → legal (left_by before (unless_refused ground next)) ≡ true
+    legal before ≡ true → legal next ≡ true → legal (left_by before (next_unless ground next)) ≡ true
 unless_legal none before next p q = q
 unless_legal (some why) before next p q = p
 

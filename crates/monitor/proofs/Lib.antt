@@ -1,7 +1,6 @@
 pub mod Tells
 pub mod Legal
 pub mod Stall
-pub mod Outcomes
 pub mod Following
 pub mod Judged
 pub mod Keeps

@@ -5,17 +5,15 @@ use native.Mathlib.Omega.{arith}
 use mathlib.Core.Bool.{Bool, true, false, cond}
 use mathlib.Core.List.{List, [], ◌∷◌, ◌++◌}
 use mathlib.Core.Logic.{⊎_elim}
-use mathlib.Core.Option.{Option}
 use mathlib.Core.Path.{◌≡◌, refl, ◌∙◌, ap, subst}
 use borrow.Author.Tests.{le-ltb}
 use Rattle.std.specs.Prelude.{Ok}
 use Rattle.signals.specs.Refusals.{accepts, refusal_of}
 use Rattle.signals.specs.Stream.{sample, reserved_bit}
-use Rattle.signals.specs.declared.Refusal.{Refusal}
 use Rattle.signals.proofs.Judging.{before_or_last}
 use Rattle.signals.proofs.Tables.{keeps_none}
 use Rattle.monitor.specs.declared.Monitor.{Monitor}
-use Rattle.monitor.specs.Bursts.{max_seen, grounds, unless_refused, fed_by, left_by}
+use Rattle.monitor.specs.Bursts.{max_seen, grounds, fed_by, left_by}
 use Rattle.monitor.specs.Cycle.{one_more}
 use Rattle.monitor.specs.Record.{fresh, legal}
 use Rattle.monitor.specs.Theorems.{Burst, after, taken, Recorded, Reached}
@@ -53,8 +51,7 @@ module _ (m : Monitor) (control word : ℕ) where
       fed_by m (control ∷ []) (word ∷ []) ≡ Ok (one_more m (sample control word))
   unfolding fed_by
   cycle_fed e room bits =
-      ap (λ (ground : Option Refusal). unless_refused ground (one_more m (sample control word)))
-      (keeps_none (grounds m (control ∷ []) (word ∷ [])) (refl, (le-ltb max_seen (m.cycles + 1) (omega arith), (rw e, (rw bits, tt)))))
+      rw (keeps_none (grounds m (control ∷ []) (word ∷ [])) (refl, (le-ltb max_seen (m.cycles + 1) (omega arith), (rw e, (rw bits, tt)))))
 
   -- what one cycle more makes of a record that bursts lead to, bursts lead to
   pub reached_next :

@@ -16,7 +16,7 @@ use Rattle.stream_checker.specs.Rules.{counters, after_counter}
 use Rattle.monitor.specs.declared.Monitor.{Monitor}
 use Rattle.monitor.specs.Bursts.{max_seen}
 use Rattle.monitor.specs.Cycle.{one_more}
-use Rattle.monitor.specs.Step.{clean_with, broken_at}
+use Rattle.monitor.specs.Step.{clean_with, broken_with}
 use Rattle.monitor.specs.Theorems.{Reached, RefusedExactly}
 use Rattle.monitor.proofs.Legal.{Clean, AfterStall, BySeq, Broken, legal_says}
 use Rattle.monitor.proofs.Keeps.{reached_legal}
@@ -55,16 +55,16 @@ after_stall true c h k p counted due = rw (add-one c, add-zero h, add-zero k)
 after_stall false c h k p counted due = rw (add-one c, add-zero h, add-zero k)
 
 -- the breaches of rules 4, 2 and seq, and a cycle past a breach
-after_dropped : (s : Bool) (c h k : ℕ) → one_more (clean_with s c h k true zeros false 0) (sample 0 0) ≡ broken_at s (suc c) 4 c h k
+after_dropped : (s : Bool) (c h k : ℕ) → one_more (clean_with s c h k true zeros false 0) (sample 0 0) ≡ broken_with s (suc c) 4 c h k
 after_dropped s c h k = rw (add-one c)
 
-after_changed : (s : Bool) (c h k : ℕ) → one_more (clean_with s c h k true zeros false 0) (sample 1 1) ≡ broken_at s (suc c) 2 c h k
+after_changed : (s : Bool) (c h k : ℕ) → one_more (clean_with s c h k true zeros false 0) (sample 1 1) ≡ broken_with s (suc c) 2 c h k
 after_changed s c h k = rw (add-one c)
 
-after_repeated : (c h k : ℕ) → one_more (still true c h k true 1) (sample 51 0) ≡ broken_at true (suc c) 100 c h k
+after_repeated : (c h k : ℕ) → one_more (still true c h k true 1) (sample 51 0) ≡ broken_with true (suc c) 100 c h k
 after_repeated c h k = rw (add-one c)
 
-after_breach : (s : Bool) (c rule cycle h k : ℕ) → one_more (broken_at s c rule cycle h k) (sample 0 0) ≡ broken_at s (suc c) rule cycle h k
+after_breach : (s : Bool) (c rule cycle h k : ℕ) → one_more (broken_with s c rule cycle h k) (sample 0 0) ≡ broken_with s (suc c) rule cycle h k
 after_breach s c rule cycle h k = rw (add-one c)
 
 -- idle cycles after a cycle that did not stall
@@ -118,20 +118,20 @@ stall_reached s (suc c) h k before room =
     stalled_reached s c h k zeros false 0 (omega arith) (omega arith) room (uncounted_reached s c h k (omega arith) (omega arith))
 
 -- broken in the cycle after a stalled one: by rule 4, with valid 0, or by rule 2, with another word
-stall_broken : (s : Bool) (number c h k : ℕ) → AfterStall number c (h + k) → c < max_seen → Reached (broken_at s (suc c) number c h k)
+stall_broken : (s : Bool) (number c h k : ℕ) → AfterStall number c (h + k) → c < max_seen → Reached (broken_with s (suc c) number c h k)
 stall_broken s number c h k a room = ⊎_elim (λ (e : number ≡ 4). rw e dropped) (λ (e : number ≡ 2). rw e changed) a.rule
   where
     before : Reached (clean_with s c h k true zeros false 0)
     before = stall_reached s c h k a.before (omega arith)
 
-    dropped : Reached (broken_at s (suc c) 4 c h k)
+    dropped : Reached (broken_with s (suc c) 4 c h k)
     dropped = reached_next _ 0 0 _ (after_dropped s c h k) (omega arith) (omega arith) refl room before
 
-    changed : Reached (broken_at s (suc c) 2 c h k)
+    changed : Reached (broken_with s (suc c) 2 c h k)
     changed = reached_next _ 1 1 _ (after_changed s c h k) (omega arith) (omega arith) refl room before
 
 -- broken by rule seq: counter 0 is carried once more where 1 is due
-seq_broken : (s : Bool) (number c h k : ℕ) → BySeq s number c h (h + k) → c < max_seen → Reached (broken_at s (suc c) number c h k)
+seq_broken : (s : Bool) (number c h k : ℕ) → BySeq s number c h (h + k) → c < max_seen → Reached (broken_with s (suc c) number c h k)
 seq_broken s number c h k q room =
     rw (q.rule, q.switched)
     (reached_next (still true c h k true 1) 51 0 _ (after_repeated c h k) (omega arith) (omega arith) refl room
@@ -139,10 +139,10 @@ seq_broken s number c h k q room =
 
 -- idle cycles past a breach
 past_reached :
-    (s : Bool) (rule cycle h k : ℕ) (a b : ℕ) → a ≤ b → b ≤ max_seen → Reached (broken_at s a rule cycle h k) → Reached (broken_at s b rule cycle h k)
+    (s : Bool) (rule cycle h k : ℕ) (a b : ℕ) → a ≤ b → b ≤ max_seen → Reached (broken_with s a rule cycle h k) → Reached (broken_with s b rule cycle h k)
 past_reached s rule cycle h k a b from seen =
-    later (λ (c : ℕ). Reached (broken_at s c rule cycle h k)) a b
-    (λ c below r. reached_next (broken_at s c rule cycle h k) 0 0 _ (after_breach s c rule cycle h k) (omega arith) (omega arith) refl (omega arith) r)
+    later (λ (c : ℕ). Reached (broken_with s c rule cycle h k)) a b
+    (λ c below r. reached_next (broken_with s c rule cycle h k) 0 0 _ (after_breach s c rule cycle h k) (omega arith) (omega arith) refl (omega arith) r)
     from
 
 module _ (m : Monitor) (seen : m.cycles ≤ max_seen) where
@@ -183,11 +183,11 @@ module _ (m : Monitor) (seen : m.cycles ≤ max_seen) where
 
   module _ (b : Broken m) where
     -- it is the record of its fields
-    is_broken_lem : broken_at m.seq m.cycles m.rule m.cycle m.handshakes m.clears ≡ m
+    is_broken_lem : broken_with m.seq m.cycles m.rule m.cycle m.handshakes m.clears ≡ m
     is_broken_lem = rw (b.verdict, b.unstalled, b.uncounted, b.payload, b.due)
 
     -- the cycle of the breach is the last
-    breach_reached : Reached (broken_at m.seq (suc m.cycle) m.rule m.cycle m.handshakes m.clears)
+    breach_reached : Reached (broken_with m.seq (suc m.cycle) m.rule m.cycle m.handshakes m.clears)
     breach_reached =
         let room : m.cycle < max_seen = omega (arith, b.seen) in
         ⊎_elim (λ a. stall_broken m.seq m.rule m.cycle m.handshakes m.clears a room)

@@ -23,20 +23,20 @@ grounds m controls words =
     ∷ IllegalBits ⇐ any_of reserved_bit controls
     ∷ []
 
--- accepted, unless there is a ground
-abbrev pub outcome_by : (ground : Option Refusal) → Result (Unit {0}) Refusal
-outcome_by none = Ok tt
-outcome_by (some why) = Err why
+-- the ground for which a burst is refused, if it is
+abbrev pub ground_of : Result (Unit {0}) Refusal → Option Refusal
+ground_of (Ok accepted) = none
+ground_of (Err why) = some why
 
--- the answer is the next record, unless there is a ground
-abbrev pub unless_refused : (ground : Option Refusal) → (next : Monitor) → Result Monitor Refusal
-unless_refused none next = Ok next
-unless_refused (some why) next = Err why
+-- the next record, unless there is a ground
+abbrev pub next_unless : (ground : Option Refusal) → (next : Monitor) → Result Monitor Refusal
+next_unless none next = Ok next
+next_unless (some why) next = Err why
 
 -- what a record is fed with a burst: its cycles one after another, or, refused, nothing
 unfoldable pub fed_by : Monitor → (controls words : List ℕ) → Result Monitor Refusal
 fed_by m controls words =
-    unless_refused (first_applying (grounds m controls words)) (after_cycles m (sample_at controls words) (length controls))
+    next_unless (first_applying (grounds m controls words)) (after_cycles m (sample_at controls words) (length controls))
 
 -- the record that a burst leaves: the next, or, refused, the one before
 abbrev pub left_by : (before : Monitor) → (fed : Result Monitor Refusal) → Monitor

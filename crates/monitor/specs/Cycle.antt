@@ -1,5 +1,6 @@
 -- Requests T-05 and T-09, over "Stream rules" of document 01: the record after one more cycle, and after more. Assumes nothing.
-use Rattle.std.specs.Prelude.{ℕ, zero, suc, ◌+◌, Bool, true, false, cond, not, ◌&&◌, List, eqb}
+use Rattle.std.specs.Prelude as std
+use Rattle.std.specs.Prelude.{ℕ, zero, suc, ◌+◌, true, false, cond, ◌&&◌, List, Some, None, eqb}
 use Rattle.std.proofs.Math.Option.{Option, none, some}
 use Rattle.signals.specs.Numbers.{rule_number}
 use Rattle.signals.specs.Payloads.{zeros}
@@ -7,21 +8,23 @@ use Rattle.signals.specs.Stream.{Sample, clear_cycle, handshake}
 use Rattle.signals.specs.Tables.{Row, first_applying}
 use Rattle.signals.specs.Written.{RuleName}
 use Rattle.stream_checker.specs.Rules.{stalled, breaks_held, breaks_stable, counter, after_counter, carries_counter, in_order, unless_clear}
+use Rattle.stream_checker.specs.Step.{not_due}
 use Rattle.monitor.specs.declared.Monitor.{Monitor}
 
 -- the last cycle, as far as the next is judged by it: stalled with its payload, or not stalled
 abbrev pub last_seen : Monitor → Sample
 last_seen m = record { valid = m.stalled; ready = false; clear = false; payload = m.payload }
 
--- a counter that is not the one due; where none was carried since the last clear cycle, any is
-abbrev pub not_due : Monitor → ℕ → Bool
-not_due m n = m.counted && not (eqb n m.due)
+-- the counter that is due next, if one was carried since the last clear cycle
+abbrev pub due_of : Monitor → std.Option ℕ
+due_of m = cond m.counted (Some m.due) None
 
 -- the rules in the next cycle; a clear cycle is not judged
 abbrev pub rules_next : Monitor → Sample → List (Row RuleName)
 rules_next m now =
     unless_clear now
-    (in_order m.seq (breaks_held (last_seen m) now) (breaks_stable (last_seen m) now) (carries_counter now && not_due m (counter now)))
+    (in_order m.seq (breaks_held (last_seen m) now) (breaks_stable (last_seen m) now)
+    (carries_counter now && not_due (due_of m) (counter now)))
 
 -- a cycle that breaks no rule: it is counted if it is a handshake or a clear cycle, kept if it stalled, and its counter, where seq is on,
 -- sets the next; after a clear cycle no counter is due
@@ -44,14 +47,11 @@ passed m now =
 -- a cycle that breaks a rule: the record keeps the rule, the cycle, and the handshakes and the clear cycles before it, and nothing else
 abbrev pub broken_by : Monitor → RuleName → Monitor
 broken_by m rule =
-    record {
-      seq = m.seq;
+    record m {
       cycles = m.cycles + 1;
       verdict = 2;
       rule = rule_number rule;
       cycle = m.cycles;
-      handshakes = m.handshakes;
-      clears = m.clears;
       stalled = false;
       payload = zeros;
       counted = false;
@@ -60,20 +60,7 @@ broken_by m rule =
 
 -- a cycle after the breach: it adds to the cycles seen and to nothing else
 abbrev pub seen_only : Monitor → Monitor
-seen_only m =
-    record {
-      seq = m.seq;
-      cycles = m.cycles + 1;
-      verdict = m.verdict;
-      rule = m.rule;
-      cycle = m.cycle;
-      handshakes = m.handshakes;
-      clears = m.clears;
-      stalled = m.stalled;
-      payload = m.payload;
-      counted = m.counted;
-      due = m.due;
-    }
+seen_only m = record m { cycles = m.cycles + 1 }
 
 -- the next cycle of a clean record, by the first rule in order that it breaks
 abbrev pub judged_next : Monitor → Sample → Option RuleName → Monitor

@@ -1,5 +1,5 @@
 -- What the checker of whole traces keeps, and what a record keeps of it. The contracts of private functions cite this. Assumes nothing.
-use Rattle.std.specs.Prelude.{ℕ, ◌+◌, ◌*◌, Bool, false, cond, Some, None, is_some, unwrap_or}
+use Rattle.std.specs.Prelude.{ℕ, ◌+◌, ◌*◌, Bool, false, cond, is_some, unwrap_or}
 use Rattle.signals.specs.Numbers.{rule_number}
 use Rattle.signals.specs.Payloads.{zeros}
 use Rattle.signals.specs.Written.{RuleName}
@@ -8,6 +8,7 @@ use Rattle.stream_checker.specs.Rules.{stalled}
 use Rattle.stream_checker.specs.Step.{before}
 use Rattle.stream_checker.specs.declared.watch.Watch.{Watch}
 use Rattle.monitor.specs.declared.Monitor.{Monitor}
+use Rattle.monitor.specs.Cycle.{due_of}
 
 -- the watch from which a burst is judged: the last cycle as if it were just seen, valid 1 and ready 0 if it stalled
 abbrev pub watch_of : Monitor → Watch
@@ -15,7 +16,7 @@ watch_of m =
     record {
       control = cond m.stalled (1 + 16 * m.payload.strb) 0;
       «data» = m.payload.«data»;
-      due = cond m.counted (Some m.due) None;
+      due = due_of m;
     }
 
 -- what a record keeps of the last cycle: its payload if it stalled
@@ -50,8 +51,8 @@ kept seq_on cycles handshakes clears w =
     clean_with seq_on cycles handshakes clears (stalled (before w)) (payload_kept w) (is_some w.due) (due_kept w)
 
 -- a broken record
-abbrev pub broken_at : (seq_on : Bool) → (cycles rule cycle handshakes clears : ℕ) → Monitor
-broken_at seq_on cycles rule cycle handshakes clears =
+abbrev pub broken_with : (seq_on : Bool) → (cycles rule cycle handshakes clears : ℕ) → Monitor
+broken_with seq_on cycles rule cycle handshakes clears =
     record {
       seq = seq_on;
       cycles = cycles;
@@ -68,7 +69,7 @@ broken_at seq_on cycles rule cycle handshakes clears =
 
 -- a clean record that is broken in cycle c of a burst
 abbrev pub broken_in : Monitor → (cycles handshakes clears : ℕ) → RuleName → (c : ℕ) → Monitor
-broken_in m cycles handshakes clears rule c = broken_at m.seq cycles (rule_number rule) (m.cycles + c) handshakes clears
+broken_in m cycles handshakes clears rule c = broken_with m.seq cycles (rule_number rule) (m.cycles + c) handshakes clears
 
 -- a record that has seen more, and is otherwise as it was
 abbrev pub with_cycles : Monitor → (cycles : ℕ) → Monitor
@@ -80,4 +81,4 @@ with_last m w = record m { stalled = stalled (before w); payload = payload_kept 
 
 -- a record that keeps a breach
 abbrev pub with_breach : Monitor → RuleName → (cycle : ℕ) → Monitor
-with_breach m rule cycle = broken_at m.seq m.cycles (rule_number rule) cycle m.handshakes m.clears
+with_breach m rule cycle = broken_with m.seq m.cycles (rule_number rule) cycle m.handshakes m.clears

@@ -9,7 +9,7 @@ ghost use Rattle.monitor.specs.Bursts.{max_seen};
 ghost use Rattle.monitor.specs.Step.{watch_of, payload_kept, with_last, with_breach};
 
 use crate::Monitor;
-use signals::stream::strb;
+use signals::stream::payload;
 use signals::{BROKEN, Payload, ZEROS};
 use stream_checker::watch::{Watch, stalled};
 use stream_checker::{Rule, judge_cycles};
@@ -19,17 +19,15 @@ fn payload_kept(watch: Watch) -> Payload
     ensures { result ≡ payload_kept watch }
 {
     if stalled(watch.control) {
-        Payload {
-            data: watch.data,
-            strb: strb(watch.control),
-        }
+        payload(watch.control, watch.data)
     } else {
         ZEROS
     }
 }
 
 impl Monitor {
-    // The last cycle as if it were just seen: valid 1 and ready 0 if it stalled.
+    // The last cycle as if it were just seen: valid 1 and ready 0 if it stalled. A byte of two fields: one made of all four, as a run of
+    // `chain` makes it, would be no plainer.
     fn last_control(self) -> u8
         requires { self.payload.strb ≤ max_strb }
         ensures { result ≡ (watch_of self).control }
@@ -68,7 +66,7 @@ impl Monitor {
         ensures { self.new ≡ with_breach self.old (rule_name rule) cycle }
     {
         self.verdict = BROKEN;
-        self.rule = rule.number();
+        self.rule = u8::from(rule);
         self.cycle = cycle;
         self.stalled = false;
         self.payload = ZEROS;
@@ -78,7 +76,9 @@ impl Monitor {
 
     // Takes in a burst.
     pub(crate) fn take(&mut self, control: &[u8], data: &[u32])
-        requires { (length control.now ≡ length «data».now) × (self.old.cycles + length control.now ≤ max_seen) × (legal self.old ≡ true) }
+        requires same { length control.now ≡ length «data».now }
+        requires room { self.old.cycles + length control.now ≤ max_seen }
+        requires is_legal { legal self.old ≡ true }
         ensures { self.new ≡ after_cycles self.old (sample_at control.now «data».now) (length control.now) }
     {
         let before = self.cycles;

@@ -1,4 +1,4 @@
-// The tests of refusal 6: whether bursts can have left a record.
+// The tests of refusal 6: whether bursts can have left a record. It is C's, and has numbers, which are compared as numbers.
 ghost use Rattle.std.specs.Prelude.{cond, ◌≡◌, leb, ltb};
 ghost use Rattle.monitor.specs.Record.{in_range, in_place, handshakes_and_clears, clean_form, broken_after_stall, broken_by_seq, broken_form, legal};
 

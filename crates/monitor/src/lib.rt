@@ -9,13 +9,13 @@ mod form; // form.rt: the tests of refusal 6
 ghost use Rattle.std.specs.Prelude.{◌≡◌, ◌+◌};
 ghost use Rattle.signals.specs.Tables.{first_applying};
 ghost use Rattle.monitor.specs.Record.{fresh};
-ghost use Rattle.monitor.specs.Bursts.{max_seen, grounds, outcome_by, fed_by, left_by, outcome_of};
+ghost use Rattle.monitor.specs.Bursts.{max_seen, grounds, ground_of, fed_by, left_by, outcome_of};
 
 use signals::stream::any_reserved;
 use signals::{CLEAN, Payload, Refusal, ZEROS};
 
 // How many cycles a record may have seen in all.
-pub const MAX_SEEN: u32 = 4294967295;
+pub const MAX_SEEN: u32 = u32::MAX;
 
 // A record of a stream that is checked in bursts. Callers lend it and read it; only these calls should write it. C reads it too, so that
 // it has numbers and flags in place of enums and options.
@@ -71,7 +71,7 @@ impl Monitor {
     // The refusals 1, 3, 6 and 2, in this order. A burst's two sequences go apart, as the public calls have them and `judge_cycles` takes
     // them: a struct would be made here only to be taken apart there.
     fn refusal(self, control: &[u8], data: &[u32]) -> Result<(), Refusal>
-        ensures { result ≡ outcome_by (first_applying (grounds self control.now «data».now)) }
+        ensures { ground_of result ≡ first_applying (grounds self control.now «data».now) }
     {
         if control.len() != data.len() {
             return Err(Refusal::LengthsDiffer);
@@ -98,6 +98,7 @@ impl Monitor {
 }
 
 // The same in place: the record that is lent becomes the one after the burst; refused, it stays as it was.
+#[tactic(auto, unfolding(crate::specs::Bursts::fed_by))]
 pub fn feed(monitor: &mut Monitor, control: &[u8], data: &[u32]) -> Result<(), Refusal>
     ensures { (monitor.new ≡ left_by monitor.old (fed_by monitor.old control.now «data».now))
         × (result ≡ outcome_of (fed_by monitor.old control.now «data».now)) }
