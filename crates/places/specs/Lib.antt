@@ -1,2 +1,2 @@
--- How many FIFOs a line has.
+-- How many FIFOs a line has, and what reading their places promises.
 pub mod Listing
