@@ -6,5 +6,4 @@ pub mod Tracing
 pub mod Need
 pub mod Timing
 pub mod Bytes
-pub mod Made
 pub mod Pass

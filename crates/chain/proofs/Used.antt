@@ -1,16 +1,15 @@
 -- The used FIFOs of a chain, read as values; and a line of values that all have their form. Assumes nothing.
 use mathlib.Core.Path.{◌≡◌, refl, sym, ap, ◌∙◌}
 use mathlib.Core.Bool.{true, false, false≢true}
-use mathlib.Core.List.{List, [], ◌∷◌, map, map-append}
+use mathlib.Core.List.{List, [], ◌∷◌, map}
 use mathlib.Core.Logic.{⊎_elim}
-use Prim.Native.Nat.{ℕ, ◌+◌, ◌≤◌, ◌<◌}
+use Prim.Native.Nat.{ℕ, ◌≤◌, ◌<◌}
 use native.Mathlib.Omega.{arith}
 use borrow.Author.Tests.{leb-true}
 use lib.Dec.{leb}
-use lib.ListN.{length, get_or, set, take, length-map}
+use lib.ListN.{length, get_or, take, length-map}
 use lib.Seq.{length-take-le, get_or-take}
-use Rattle.std.proofs.lemmas.List.{get_or-map, map_more}
-use Rattle.std.proofs.lemmas.Grind.{take-set_at}
+use Rattle.std.proofs.lemmas.List.{get_or-map}
 use Rattle.std.specs.List.{list_all}
 use Rattle.signals.proofs.Bools.{either, both, clash}
 use Rattle.fifo.specs.declared.Fifo.{Fifo}
@@ -51,6 +50,10 @@ line_well (queue.well q ∷ vs) = by_rest (line_of vs) ∙ line_well vs
 pub well_row : (v : Value) → is_well v ≡ true → v ≡ well (queues v)
 well_row ill e = absurd (false≢true e)
 well_row (well qs) e = refl
+
+pub well_queue : (v : queue.Value) → queue.is_well v ≡ true → (q : Queue) × (v ≡ queue.well q)
+well_queue queue.ill e = absurd (false≢true e)
+well_queue (queue.well q) e = (q, refl)
 
 -- the values of a chain's used FIFOs
 abbrev pub used : Chain → List queue.Value
@@ -104,8 +107,3 @@ module _ (chain : Chain) (f : Formed chain) (wide : length chain.fifos ≡ max_f
       ∙ sym (get_or-map fifo.value (take chain.count chain.fifos) j d queue.ill (omega (arith, used_length, h)))
       ∙ ap (λ (vs : List queue.Value). get_or vs j queue.ill) used_wells
       ∙ get_or-map queue.well (queues (value chain)) j e queue.ill (omega (arith, queues_length, h))
-
--- two lists agree up to a place, and at the place once it is stored there
-pub agree_more : {A B V : Type 0} (f : A → V) (g : B → V) (xs : List A) (ys : List B) (i : ℕ) (x : A) (d : B) → i < length xs → i < length ys
-    → map f (take i xs) ≡ map g (take i ys) → f x ≡ g (get_or ys i d) → map f (take (i + 1) (set xs i x)) ≡ map g (take (i + 1) ys)
-agree_more f g xs ys i x d h k e same = rw (take-set_at xs i (i + 1) x refl h, map-append, map_more g ys i d k, e, same)

@@ -9,7 +9,7 @@ use native.Mathlib.Numerals.{add-one}
 use lib.ListN.{length, get_or, set, take, drop, drop_of_length-le}
 use lib.Seq.{take_all, drop-cons, drop-set-lt, take-suc-set}
 use Rattle.signals.specs.declared.Payload.{Payload}
-use Rattle.signals.specs.Payloads.{zeros, legal_strb}
+use Rattle.signals.specs.Payloads.{legal_strb}
 use Rattle.signals.proofs.Bools.{clash}
 use Rattle.fifo.specs.Queue as queue
 use Rattle.fifo.specs.Queue.{Queue, ready, when, is_any, shown, shown_as, next, emptied}
@@ -70,108 +70,30 @@ module _ (vs : List queue.Value) (i : ℕ) where
         from = drop-set-lt (i + 1) vs i (queue.well q) (omega arith) ∙ from;
       }
 
--- so far in a cycle: what is served is as the rule leaves it, and the rest of the row, fed with what is handed on, makes the rule's row and
--- outlet
-pub record Cycling (row : List Queue) (source : List Payload) (sink : Bool) (vs : List queue.Value) (i : ℕ)
+-- what a cycle with clear or without leaves of a row, and what it shows at the outlet
+abbrev pub left_by : (clear : Bool) (row : List Queue) (source : List Payload) (sink : Bool) → List Queue
+left_by clear row source sink = cond clear (map emptied row) (cycle row source sink)
+
+abbrev pub shown_by : (clear : Bool) (row : List Queue) (source : List Payload) → List Payload
+shown_by clear row source = cond clear [] (outlet row source)
+
+-- So far in a cycle: what is served is as the rule leaves it, and the rest of the row, fed with what is handed on, makes the rule's row
+-- and outlet.
+pub record Walking (clear : Bool) (row : List Queue) (source : List Payload) (sink : Bool) (vs : List queue.Value) (i : ℕ)
     (offers : Bool) (p : Payload) : Type 0 where
   pub served : List Queue
   pub left : List Queue
   pub split : Split vs i served left
-  pub next : served ++ cycle left (when offers (p ∷ [])) sink ≡ cycle row source sink
-  pub shows : outlet left (when offers (p ∷ [])) ≡ outlet row source
-  -- what is handed on is legal, and past the first FIFO it is what was shown
+  pub next : served ++ left_by clear left (when offers (p ∷ [])) sink ≡ left_by clear row source sink
+  pub shows : shown_by clear left (when offers (p ∷ [])) ≡ shown_by clear row source
+  -- what is handed on is legal, and past the first FIFO it is what was shown, and nothing in a clear
   pub legal : legal_strb p ≡ true
-  pub as_shown : 0 < i → shown_as (when offers (p ∷ [])) ≡ p
-
--- at the end the served FIFOs are the rule's row, and what the last one shows is the rule's outlet
-pub record Ended (clear : Bool) (row : List Queue) (source : List Payload) (sink : Bool) (vs : List queue.Value)
-    (offers : Bool) (p : Payload) : Type 0 where
-  pub next : line_of vs ≡ well (cond clear (map emptied row) (cycle row source sink))
-  pub valid : offers ≡ is_any (cond clear [] (outlet row source))
-  pub payload : p ≡ shown_as (cond clear [] (outlet row source))
-
-module _ (row : List Queue) (source : List Payload) (sink : Bool) (vs : List queue.Value) (i : ℕ) (offers : Bool) (p : Payload)
-    (w : Cycling row source sink vs i offers p) where
-  -- one turn: the FIFO at i is served with `behind`, the ready of what stands behind it
-  cycling_on : (behind valid : Bool) (payload : Payload) (v : queue.Value) → i < length vs
-      → ((others : List Queue) → drop (i + 1) vs ≡ map queue.well others → behind ≡ mouth others sink)
-      → ((q : Queue) → get_or vs i queue.ill ≡ queue.well q → legal_strb p ≡ true → Served q offers p behind false valid payload v)
-      → Cycling row source sink (set vs i v) (i + 1) valid payload
-  cycling_on behind valid payload v h is-behind serves =
-      let f = front vs i w.left h w.split.from in
-      let q = f.first in
-      let a = serves q f.has w.legal in
-      let handed : when valid (payload ∷ []) ≡ shown q = rw (a.by_valid, a.by_payload) (shown_offered q) in
-      record {
-        served = w.served ++ (next q (when offers (p ∷ [])) behind ∷ []);
-        left = f.others;
-        split = rw a.by_next (serve vs i w.served f.others _ h w.split.below f.behind);
-        next = rw (append_assoc, handed, is-behind f.others f.behind) (rw f.stands at w.next);
-        shows = rw handed (rw f.stands at w.shows);
-        legal = a.legal;
-        as_shown = λ _. ap shown_as handed ∙ sym a.by_payload;
-      }
-
-  cycling_end : 0 < i → length vs ≤ i → Ended false row source sink vs offers p
-  cycling_end some all =
-      let none = none_left vs i w.left all w.split.from in
-      let shows : when offers (p ∷ []) ≡ outlet row source = rw none at w.shows in
-      record {
-        next = split_end vs i w.served w.left all w.split ∙ ap well (sym (append-nil w.served) ∙ (rw none at w.next));
-        valid = sym (any_when offers) ∙ ap is_any shows;
-        payload = sym (w.as_shown some) ∙ ap shown_as shows;
-      }
-    where
-      any_when : (b : Bool) → is_any (when b (p ∷ [])) ≡ b
-      any_when true = refl
-      any_when false = refl
-
--- so far in a clear: what is served is emptied, and past the first FIFO nothing is handed on
-pub record Clearing (row : List Queue) (vs : List queue.Value) (i : ℕ) (offers : Bool) (p : Payload) : Type 0 where
-  pub served : List Queue
-  pub left : List Queue
-  pub split : Split vs i served left
-  pub next : served ++ map emptied left ≡ map emptied row
-  pub legal : legal_strb p ≡ true
-  pub silent : 0 < i → (offers ≡ false) × (p ≡ zeros)
-
-module _ (row : List Queue) (vs : List queue.Value) (i : ℕ) (offers : Bool) (p : Payload) (w : Clearing row vs i offers p) where
-  clearing_on : (behind valid : Bool) (payload : Payload) (v : queue.Value) → i < length vs
-      → ((q : Queue) → get_or vs i queue.ill ≡ queue.well q → legal_strb p ≡ true → Served q offers p behind true valid payload v)
-      → Clearing row (set vs i v) (i + 1) valid payload
-  clearing_on behind valid payload v h serves =
-      let f = front vs i w.left h w.split.from in
-      let a = serves f.first f.has w.legal in
-      record {
-        served = w.served ++ (emptied f.first ∷ []);
-        left = f.others;
-        split = rw a.by_next (serve vs i w.served f.others _ h w.split.below f.behind);
-        next = rw append_assoc (rw f.stands at w.next);
-        legal = a.legal;
-        silent = λ _. (a.by_valid, a.by_payload);
-      }
-
-  clearing_end : (source : List Payload) (sink : Bool) → 0 < i → length vs ≤ i → Ended true row source sink vs offers p
-  clearing_end source sink some all =
-      let none = none_left vs i w.left all w.split.from in
-      record {
-        next = split_end vs i w.served w.left all w.split ∙ ap well (sym (append-nil w.served) ∙ (rw none at w.next));
-        valid = (w.silent some).0;
-        payload = (w.silent some).1;
-      }
-
--- so far in a cycle, with clear or without
-unfoldable pub Walking : (clear : Bool) (row : List Queue) (source : List Payload) (sink : Bool) (vs : List queue.Value) (i : ℕ)
-    (offers : Bool) (p : Payload) → Type 0
-Walking true row source sink vs i offers p = Clearing row vs i offers p
-Walking false row source sink vs i offers p = Cycling row source sink vs i offers p
+  pub valid : 0 < i → offers ≡ is_any (cond clear [] (when offers (p ∷ [])))
+  pub payload : 0 < i → p ≡ shown_as (cond clear [] (when offers (p ∷ [])))
 
 pub walking_start : (clear : Bool) (vs : List queue.Value) (row : List Queue) (sink offers : Bool) (p : Payload) → line_of vs ≡ well row
     → legal_strb p ≡ true → Walking clear row (when offers (p ∷ [])) sink vs 0 offers p
-unfolding Walking
-walking_start true vs row sink offers p e legal =
-    record { served = []; left = row; split = split_start vs row e; next = refl; legal = legal; silent = λ h. absurd (omega (arith, h)) }
-walking_start false vs row sink offers p e legal =
+walking_start clear vs row sink offers p e legal =
     record {
       served = [];
       left = row;
@@ -179,7 +101,8 @@ walking_start false vs row sink offers p e legal =
       next = refl;
       shows = refl;
       legal = legal;
-      as_shown = λ h. absurd (omega (arith, h));
+      valid = λ h. absurd (omega (arith, h));
+      payload = λ h. absurd (omega (arith, h));
     }
 
 -- one turn: the FIFO at i is served with `behind`, the ready of what stands behind it
@@ -189,28 +112,53 @@ pub walking_on : (clear : Bool) (row : List Queue) (source : List Payload) (sink
     → ((others : List Queue) → drop (i + 1) vs ≡ map queue.well others → behind ≡ mouth others sink)
     → ((q : Queue) → get_or vs i queue.ill ≡ queue.well q → legal_strb p ≡ true → Served q offers p behind clear valid payload v)
     → Walking clear row source sink (set vs i v) (i + 1) valid payload
-unfolding Walking
 walking_on true row source sink vs i offers p behind valid payload v h w is-behind serves =
-    clearing_on row vs i offers p w behind valid payload v h serves
+    let f = front vs i w.left h w.split.from in
+    let a = serves f.first f.has w.legal in
+    record {
+      served = w.served ++ (emptied f.first ∷ []);
+      left = f.others;
+      split = rw a.by_next (serve vs i w.served f.others _ h w.split.below f.behind);
+      next = rw append_assoc (rw f.stands at w.next);
+      shows = refl;
+      legal = a.legal;
+      valid = λ _. a.by_valid;
+      payload = λ _. a.by_payload;
+    }
 walking_on false row source sink vs i offers p behind valid payload v h w is-behind serves =
-    cycling_on row source sink vs i offers p w behind valid payload v h is-behind serves
+    let f = front vs i w.left h w.split.from in
+    let q = f.first in
+    let a = serves q f.has w.legal in
+    let handed : when valid (payload ∷ []) ≡ shown q = rw (a.by_valid, a.by_payload) (shown_offered q) in
+    record {
+      served = w.served ++ (next q (when offers (p ∷ [])) behind ∷ []);
+      left = f.others;
+      split = rw a.by_next (serve vs i w.served f.others _ h w.split.below f.behind);
+      next = rw (append_assoc, handed, is-behind f.others f.behind) (rw f.stands at w.next);
+      shows = rw handed (rw f.stands at w.shows);
+      legal = a.legal;
+      valid = λ _. a.by_valid ∙ ap is_any (sym handed);
+      payload = λ _. a.by_payload ∙ ap shown_as (sym handed);
+    }
 
--- what is handed on is legal
-pub walking_legal : (clear : Bool) (row : List Queue) (source : List Payload) (sink : Bool) (vs : List queue.Value) (i : ℕ)
-    (offers : Bool) (p : Payload) → Walking clear row source sink vs i offers p → legal_strb p ≡ true
-unfolding Walking
-walking_legal true row source sink vs i offers p w = w.legal
-walking_legal false row source sink vs i offers p w = w.legal
-
--- the FIFO at i has its form
-pub walking_front : (clear : Bool) (row : List Queue) (source : List Payload) (sink : Bool) (vs : List queue.Value) (i : ℕ)
-    (offers : Bool) (p : Payload) → i < length vs → Walking clear row source sink vs i offers p → (q : Queue) × (get_or vs i queue.ill ≡ queue.well q)
-unfolding Walking
-walking_front true row source sink vs i offers p h w = let f = front vs i w.left h w.split.from in (f.first, f.has)
-walking_front false row source sink vs i offers p h w = let f = front vs i w.left h w.split.from in (f.first, f.has)
+-- at the end the served FIFOs are the rule's row, and what the last one shows is the rule's outlet
+pub record Ended (clear : Bool) (row : List Queue) (source : List Payload) (sink : Bool) (vs : List queue.Value)
+    (offers : Bool) (p : Payload) : Type 0 where
+  pub next : line_of vs ≡ well (left_by clear row source sink)
+  pub valid : offers ≡ is_any (shown_by clear row source)
+  pub payload : p ≡ shown_as (shown_by clear row source)
 
 pub walking_end : (clear : Bool) (row : List Queue) (source : List Payload) (sink : Bool) (vs : List queue.Value) (i : ℕ)
     (offers : Bool) (p : Payload) → 0 < i → length vs ≤ i → Walking clear row source sink vs i offers p → Ended clear row source sink vs offers p
-unfolding Walking
-walking_end true row source sink vs i offers p some all w = clearing_end row vs i offers p w source sink some all
-walking_end false row source sink vs i offers p some all w = cycling_end row source sink vs i offers p w some all
+walking_end clear row source sink vs i offers p some all w =
+    let none = none_left vs i w.left all w.split.from in
+    let shows : shown_by clear [] (when offers (p ∷ [])) ≡ shown_by clear row source = rw none at w.shows in
+    record {
+      next = split_end vs i w.served w.left all w.split ∙ ap well (sym (append-nil w.served) ∙ (rw (none, nothing clear) at w.next));
+      valid = w.valid some ∙ ap is_any shows;
+      payload = w.payload some ∙ ap shown_as shows;
+    }
+  where
+    nothing : (clear : Bool) → ◌≡◌ {A = List Queue} (cond clear [] []) []
+    nothing true = refl
+    nothing false = refl

@@ -1,5 +1,5 @@
--- What `Chain::new`, `Chain::step`, `Chain::run` and `Chain::delivery_time` promise. FIFOs past the count of a chain that is handed back
--- are free. Assumes nothing.
+-- What `Chain::new`, `Chain::at`, `Chain::step`, `Chain::run` and `Chain::delivery_time` promise. FIFOs past the count of a chain that
+-- is handed back are free. Assumes nothing.
 use Rattle.std.specs.Prelude.{ℕ, false, cond, List, [], ◌∷◌, map, ◌≡◌, take, Result, Ok, Err, IfOk}
 use Rattle.std.proofs.Math.Option.{none, some}
 use Rattle.signals.specs.declared.Refusal.{Refusal}

@@ -1,6 +1,7 @@
 // The form of a chain: a legal count, and used FIFOs that have their form.
 //
-// Private functions ask for it by `requires`: a type for it would hold the chain once more, and have to be tied to the chain given.
+// Private functions ask for it by `requires`: a type with that fact would be made from the chain for one call, right after the test, and
+// taken apart in it: a third name beside `Chain` and its value.
 ghost use Rattle.std.specs.Prelude.{◌≡◌, length};
 ghost use Rattle.places.specs.Listing.{max_fifos};
 ghost use Rattle.chain.specs.Calls.{is_well};

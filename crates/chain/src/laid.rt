@@ -1,6 +1,6 @@
 // A chain's FIFOs in memory of a run, whose cycles copy no slot but the one that a payload joins.
 ghost use Rattle.std.specs.Prelude.{◌≡◌, true, map, take};
-ghost use Rattle.fifo.specs.Queue.{Queue, well};
+ghost use Rattle.fifo.specs.Queue as queue;
 ghost use Rattle.fifo.specs.Promises.{value as fifo_value};
 ghost use Rattle.places.specs.Listing.{legal_count};
 ghost use Rattle.chain.specs.Calls.{is_well};
@@ -13,7 +13,8 @@ use fifo::{Fifo, MAX_DEPTH, Pointers, SMALLEST};
 use places::MAX_FIFOS;
 use signals::Cycle;
 
-// A FIFO with memory of its own.
+// A FIFO with memory of its own, enough for the deepest, since there is no heap. Words and strobes are two arrays, as `Fifo::laid_in` and
+// `Pointers::step` are lent them in two slices (`StepsIn`).
 #[derive(Clone, Copy)]
 pub(crate) struct Part {
     pointers: Pointers,
@@ -35,7 +36,8 @@ pub(crate) const UNUSED: Part = Part {
 impl Part {
     // Lays a FIFO that has its form in this part.
     fn lay(&mut self, fifo: Fifo)
-        ensures { (q : Queue) → fifo_value fifo ≡ well q → part_value self.new ≡ well q }
+        requires { queue.is_well (fifo_value fifo) ≡ true }
+        ensures { part_value self.new ≡ fifo_value fifo }
     {
         self.pointers = fifo.laid_in(&mut self.words, &mut self.strbs);
     }
@@ -76,6 +78,8 @@ impl Chain {
         requires { is_well (value self.now) ≡ true }
         ensures { line_of (map part_value (take self.now.count parts.new)) ≡ value self.now }
     {
+        // By index: `from_fn` would make a second array and copy it, and after `parts.iter_mut().zip(..)` the prover knows nothing of what
+        // was written.
         for (j, fifo) in self.fifos[..self.count].iter().enumerate() {
             parts[j].lay(*fifo);
         }
@@ -86,6 +90,7 @@ impl Chain {
         requires { legal_count self.old.count ≡ true }
         ensures { value self.new ≡ line_of (map part_value (take self.old.count parts.now)) }
     {
+        // By index, as in `lay_out`: `from_fn` would make a second array and copy it, and `self.fifos.iter_mut().zip(..)` was tried.
         for (j, part) in parts[..self.count].iter().enumerate() {
             self.fifos[j] = part.gathered();
         }

@@ -13,11 +13,12 @@ mod trace;
 
 ghost use Rattle.std.specs.Prelude.{◌≡◌, [], ◌∷◌};
 ghost use Rattle.fifo.specs.Queue.{plain, empty};
+ghost use Rattle.places.specs.Listing.{places_of};
 ghost use Rattle.chain.specs.Calls.{well};
 ghost use Rattle.chain.specs.Promises.{value, Made, Promised, step_done, run_done};
 
 use fifo::{Fifo, Place};
-use places::{MAX_FIFOS, is_legal_count};
+use places::{MAX_FIFOS, Places, is_legal_count};
 use signals::{Cycle, MAX_STRB, Refusal, Stepped};
 use stage::walk;
 use trace::Trace;
@@ -39,6 +40,9 @@ impl Chain {
             return Err(Refusal::BadCount);
         }
         let mut fifos = [Fifo::smallest(); MAX_FIFOS];
+        // By index: tried by `try_from_fn`, whose promise is of some state of its closure: which places were read stays open. It and an
+        // array's `try_map` took over three times as long to make sixteen. After `iter_mut` in a `zip` the prover knows nothing of what was
+        // written.
         for (i, place) in places.iter().enumerate() {
             fifos[i] = Fifo::new(*place)?;
         }
@@ -48,7 +52,16 @@ impl Chain {
         })
     }
 
+    // The same by value, for a caller who has no list to lend. Places past the count are not looked at, and a count above sixteen is
+    // refused as a count of 0 is. It is promised for Rattle callers (docs/PROMISES.md), so it stays beside `new`.
+    pub fn at(places: Places) -> Result<Chain, Refusal>
+        ensures { Made (places_of places) result }
+    {
+        Chain::new(places.listed.get(..places.count).unwrap_or(&[]))
+    }
+
     // What a caller has where a new chain was refused: one empty plain FIFO of depth 2.
+    #[tactic(auto, unfolding(crate::specs::Promises::value))]
     pub fn shortest() -> Chain
         ensures { value result ≡ well (empty (plain 2) ∷ []) }
     {
@@ -81,7 +94,8 @@ impl Chain {
     }
 
     // A cycle for each entry of the recorded offer, which may be a clear, and of the sink's readies. The outlet's trace goes into
-    // the two outputs, whose entries past its length stay.
+    // the two outputs, whose entries past its length stay. Five slices, since C lends five to `floealder_chain_run`; the sink's readies
+    // are bytes 0 and 1, as C lends them, and others are refused with 2 (`run_grounds`).
     pub fn run(
         self,
         control: &[u8],

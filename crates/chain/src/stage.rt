@@ -18,7 +18,8 @@ pub(crate) trait Stage {
     fn is_ready(&self) -> bool
         ensures { (q : Queue) → value_of self.now ≡ well q → result ≡ ready q };
 
-    // One cycle of one that has its form. What it shows is handed on in place of what was offered.
+    // One cycle of one that has its form. What it shows is handed on in place of what was offered. That strobes are legal stands in the
+    // clauses: a type for it would be a second `Cycle`, made anew at each turn of the walk.
     fn step(&mut self, cycle: Cycle) -> Cycle
         ensures { (q : Queue) → value_of self.old ≡ well q → legal_strb cycle.payload ≡ true → HandsOn q cycle (value_of self.new) result };
 }

@@ -21,24 +21,22 @@ impl Chain {
         self.time_of(i)
     }
 
-    // The walk goes from the outlet to the mouth: `ahead` FIFOs have been passed, in which `passed` payloads are held, and these are gone
-    // after `busy` cycles.
+    // The walk goes from the outlet to the mouth: `ahead` FIFOs have been passed, payload i is payload `left` of those held behind them,
+    // and the first of these goes after `busy` cycles at the soonest.
     fn time_of(&self, i: usize) -> Result<usize, Refusal>
         requires { is_well (value self.now) ≡ true }
         ensures { Times self.now i result }
     {
-        let mut passed = 0;
+        let mut left = i;
         let mut busy = 0;
         for (ahead, fifo) in self.fifos[..self.count].iter().rev().enumerate() {
             let held = fifo.held();
-            if 0 < held {
-                let first = busy.max(ahead);
-                if i - passed < held {
-                    return Ok(first + (i - passed));
-                }
-                busy = first + held;
-                passed += held;
+            let first = busy.max(ahead);
+            if left < held {
+                return Ok(first + left);
             }
+            busy = first + held;
+            left -= held;
         }
         Err(Refusal::OutOfRange)
     }

@@ -1,7 +1,8 @@
 // A run over a trace: whether it is refused, and then cycle by cycle.
-ghost use Rattle.std.specs.Prelude.{◌≡◌, true, ◌≤◌, ◌<◌, length};
+ghost use Rattle.std.specs.Prelude.{◌≡◌, true, ◌||◌, ◌≤◌, ◌<◌, length, ltb};
 ghost use Rattle.signals.specs.Payloads.{max_strb, legal_strb};
-ghost use Rattle.signals.specs.Refusals.{refusal_of};
+ghost use Rattle.signals.specs.Refusals.{refusal_of, any_of};
+ghost use Rattle.signals.specs.Stream.{reserved_bit};
 ghost use Rattle.signals.specs.Tables.{first_applying};
 ghost use Rattle.chain.specs.Calls.{is_well, queues, byte_of, run_grounds};
 ghost use Rattle.chain.specs.Promises.{value};
@@ -11,7 +12,7 @@ use super::Chain;
 use super::laid::UNUSED;
 use super::stage::walk;
 use places::MAX_FIFOS;
-use signals::{Cycle, MAX_CYCLES, Payload, Refusal, stream};
+use signals::{Cycle, MAX_CYCLES, Refusal, stream};
 
 // The control byte that records what is shown, with the sink's ready and clear; its reserved bit is 0.
 fn control_byte(shown: Cycle) -> u8
@@ -44,13 +45,17 @@ impl Trace<'_> {
         let control = self.control[i];
         Cycle {
             valid: stream::valid(control),
-            payload: Payload {
-                data: self.data[i],
-                strb: stream::strb(control),
-            },
+            payload: stream::payload(control, self.data[i]),
             sink: self.sink[i] == 1,
             clear: stream::clear(control),
         }
+    }
+
+    // Whether a control byte has its reserved bit set, or the sink's ready is neither 0 nor 1.
+    fn has_illegal_bits(self) -> bool
+        ensures { result ≡ (any_of reserved_bit self.entry.control.now || any_of (λ s. ltb 1 s) self.entry.sink.now) }
+    {
+        stream::any_reserved(self.control) || self.sink.iter().any(|ready| 1 < *ready)
     }
 }
 
@@ -66,7 +71,7 @@ impl Chain {
         ensures { refusal_of result ≡ first_applying (run_grounds (is_well (value self.now)) trace.entry.control.now trace.entry.«data».now trace.entry.sink.now out_control.now out_data.now) }
     {
         let cycles = trace.control.len();
-        if (trace.data.len() != cycles) | (trace.sink.len() != cycles) {
+        if trace.data.len() != cycles || trace.sink.len() != cycles {
             return Err(Refusal::LengthsDiffer);
         }
         if MAX_CYCLES < cycles {
@@ -75,10 +80,10 @@ impl Chain {
         if !self.is_well() {
             return Err(Refusal::BadState);
         }
-        if stream::any_reserved(trace.control) | trace.sink.iter().any(|ready| 1 < *ready) {
+        if trace.has_illegal_bits() {
             return Err(Refusal::IllegalBits);
         }
-        if (out_control.len() < cycles) | (out_data.len() < cycles) {
+        if out_control.len() < cycles || out_data.len() < cycles {
             return Err(Refusal::OutputTooShort);
         }
         Ok(())

@@ -10,7 +10,7 @@ use Rattle.chain.proofs.Chain.time_of.Given as goal
 
 abbrev pub invariant-loop-ahead : goal.invariant-loop-ahead
 invariant-loop-ahead l = record {
-  pass : Passed (drop (l.self.count - length l.yielded) (queues (value l.self))) l.i (length l.yielded) l.passed l.busy;
+  pass : Passed (drop (l.self.count - length l.yielded) (queues (value l.self))) l.i (length l.yielded) l.left l.busy;
   inside : length l.yielded ≤ l.self.count;
   most : l.self.count ≤ max_fifos;
   wide : length l.self.fifos ≡ max_fifos;

@@ -13,7 +13,7 @@ use Rattle.chain.specs.Line.{mouth}
 use Rattle.chain.specs.Cycles.{Cycle}
 use Rattle.chain.specs.Cycling.{HandsOn}
 use Rattle.chain.proofs.Used.{well_row}
-use Rattle.chain.proofs.Walk.{walking_start, walking_on, walking_front, walking_legal, walking_end, mouth_ready, mouth_sink}
+use Rattle.chain.proofs.Walk.{front, walking_start, walking_on, walking_end, mouth_ready, mouth_sink}
 use Rattle.chain.proofs.stage.walk.Goals as goal
 use Rattle.chain.proofs.stage.walk.Goals.{then-j-stages, else-j-stages}
 
@@ -33,8 +33,7 @@ loop-j-preserved g c =
     let vs = map value_of l.stages in
     let long = length-map l.stages value_of in
     let inside : l.j < length l.stages = omega (arith, l.auto.stages, c.loop-j-test.true) in
-    let front = walking_front _ _ _ _ vs l.j _ _ (omega (arith, long, inside)) l.invariant.0 in
-    let at_j = get_or-map value_of l.stages l.j _ queue.ill inside in
+    let fits : l.j < length vs = omega (arith, long, inside) in
     -- ready of what stands behind the FIFO: the next one's, or the sink's
     let behind : (others : List Queue) → drop (l.j + 1) vs ≡ map queue.well others → c.if-j-stages.sink ≡ mouth others c.args.cycle.sink =
     λ others e.
@@ -45,15 +44,18 @@ loop-j-preserved g c =
           (λ q has. k.is_ready-sink.ensures q (sym (get_or-map value_of l.stages (l.j + 1) _ queue.ill k.if-j-stages.true) ∙ has))
       | else-j-stages k ↦ k.sink-is ∙ mouth_sink vs (l.j + 1) others _ (omega (arith, long, k.if-j-stages.false)) e
     ]
-    in (
+    in
+    let w = l.invariant.0 in
+    let f = front vs l.j w.left fits w.split.from in
+    let at_j = get_or-map value_of l.stages l.j _ queue.ill inside in (
       rw (map-set value_of l.stages l.j c.step-shown.new.self)
           (walking_on _ _ _ _ vs l.j l.shown.valid l.shown.payload c.if-j-stages.sink _ _
           (value_of c.step-shown.new.self)
-          (omega (arith, long, inside))
-          l.invariant.0
+          fits
+          w
           behind
           (λ q has legal. served q _ _ c.step-shown.result _ l.invariant.1 (c.step-shown.ensures q (sym at_j ∙ has) legal))),
-      (c.step-shown.ensures front.0 (sym at_j ∙ front.1) (walking_legal _ _ _ _ _ _ _ _ l.invariant.0)).clear ∙ l.invariant.1,
+      (c.step-shown.ensures f.first (sym at_j ∙ f.has) w.legal).clear ∙ l.invariant.1,
     )
 
 pub returns : goal.returns
@@ -67,6 +69,6 @@ returns g c =
       payload = e.payload;
       sink = refl;
       clear = l.invariant.1;
-      legal = walking_legal _ _ _ _ _ _ _ _ l.invariant.0;
+      legal = l.invariant.0.legal;
       next = e.next;
     }
