@@ -1,41 +1,17 @@
--- A digit is below its base, and a number of so many digits below the base's power: room for `left` digits more leaves,
+-- A digit is below its base, and a number of so many digits below the base's power: room for so many digits more leaves,
 -- after one of them, room for the others. Assumes nothing.
-use mathlib.Core.Path.{◌≡◌, ◌∙◌}
-use mathlib.Core.Bool.{true, false, ◌&&◌}
-use mathlib.Core.Logic.{◌⊎◌, inl, inr, ⊎_elim}
-use mathlib.Core.Option.{Option, none, some}
-use Prim.Native.Nat.{ℕ, zero, suc, ◌+◌, ◌-◌, ◌*◌, ◌^◌, ◌<◌, ◌≤◌}
-use native.Mathlib.Nat.{pow-succ', mul_assoc, mul-le-mul_right, le-mul_of_pos_right, one-le-pow, le_trans, suc-sub-suc, sub-zero, add-mul}
+use mathlib.Core.Path.{◌≡◌}
+use mathlib.Core.Logic.{◌⊎◌, ⊎_elim}
+use mathlib.Core.Option.{some}
+use Prim.Native.Nat.{ℕ, suc, ◌+◌, ◌-◌, ◌*◌, ◌^◌, ◌<◌, ◌≤◌}
+use native.Mathlib.Nat.{pow-succ', mul_assoc, mul-le-mul_right, le-mul_of_pos_right, one-le-pow, le_trans, add-mul}
 use native.Mathlib.Omega.{arith}
-use borrow.Author.Tests.{leb-true}
-use lib.Dec.{leb}
-use Rattle.signals.proofs.Bools.{either, both, clash}
+use Rattle.std.proofs.lemmas.Bool.Decides.{nat_tests}
 use Rattle.trace_text.specs.Digits.{digit_of}
 
 -- a digit is below ten, or a letter of base sixteen
 pub digit_small : (base b d : ℕ) → digit_of base b ≡ some d → (d < 10) ⊎ ((16 ≤ base) × (d < 16))
-digit_small base b d e = ⊎_elim figure (λ f. ⊎_elim (letter f) (neither f) (either (leb 16 base && (leb 97 b && leb b 102)))) (either (leb 48 b && leb b 57))
-  where
-    figure : leb 48 b && leb b 57 ≡ true → (d < 10) ⊎ ((16 ≤ base) × (d < 16))
-    figure t =
-        let h : b ≤ 57 = leb-true b 57 (both (leb 48 b) (leb b 57) t).1 in
-        let s : some (b - 48) ≡ some d = rw t at e in
-        let q : b - 48 ≡ d = cc in
-        inl (omega arith)
-
-    letter : leb 48 b && leb b 57 ≡ false → leb 16 base && (leb 97 b && leb b 102) ≡ true → (d < 10) ⊎ ((16 ≤ base) × (d < 16))
-    letter f t =
-        let w = both (leb 16 base) (leb 97 b && leb b 102) t in
-        let k : 16 ≤ base = leb-true 16 base w.0 in
-        let h : b ≤ 102 = leb-true b 102 (both (leb 97 b) (leb b 102) w.1).1 in
-        let s : some (b - 87) ≡ some d = rw (f, t) at e in
-        let q : b - 87 ≡ d = cc in
-        inr (k, omega arith)
-
-    neither : leb 48 b && leb b 57 ≡ false → leb 16 base && (leb 97 b && leb b 102) ≡ false → (d < 10) ⊎ ((16 ≤ base) × (d < 16))
-    neither f g =
-        let s : ◌≡◌ {A = Option ℕ} none (some d) = rw (f, g) at e in
-        absurd (clash cc)
+digit_small base b d e = grind (arith, nat_tests)
 
 -- in base 10 or 16 a digit is below the base
 pub digit_below : (base b d : ℕ) → 10 ≤ base → digit_of base b ≡ some d → d < base
@@ -47,11 +23,16 @@ room_step base n left d h =
     let step : n * base + d + 1 ≤ (n + 1) * base = rw (add-mul n 1 base) (omega arith) in
     rw (pow-succ' base left, ← mul_assoc (n + 1) base (base ^ left)) (mul-le-mul_right (base ^ left) step)
 
-module _ (base n limit : ℕ) where
-  pub room_next : (left d : ℕ) → 0 < left → d < base → (n + 1) * base ^ left ≤ limit → (n * base + d + 1) * base ^ (left - 1) ≤ limit
-  room_next zero d p h r = absurd (omega arith)
-  room_next (suc left) d p h r = rw (suc-sub-suc left 0 ∙ sub-zero left) (le_trans (room_step base n left d h) r)
+-- a turn that reads a digit: the base, the byte, the digit, the value and the index before it
+module _ (base byte d value i n : ℕ) (large : 10 ≤ base) (inside : i < n) (digit : digit_of base byte ≡ some d)
+    (so_far : (value + 1) * base ^ (n - i) ≤ base ^ n) where
+  -- there is room for the digits after it
+  pub room : (value * base + d + 1) * base ^ (n - (i + 1)) ≤ base ^ n
+  room =
+      let e : suc (n - (i + 1)) ≡ n - i = omega arith in
+      le_trans (room_step base value (n - (i + 1)) d (digit_below base byte d large digit)) (rw e so_far)
 
-  -- what has room is below the limit
-  pub room_below : (left : ℕ) → 0 < base → (n + 1) * base ^ left ≤ limit → n < limit
-  room_below left p r = let h = le_trans (le-mul_of_pos_right (n + 1) (one-le-pow left base p)) r in omega arith
+  -- so the value fits
+  pub grown : base ^ n ≤ 2 ^ 32 → value * base + d < 2 ^ 32
+  grown fits =
+      let h = le_trans (le-mul_of_pos_right (value * base + d + 1) (one-le-pow (n - (i + 1)) base (omega arith))) room in omega arith

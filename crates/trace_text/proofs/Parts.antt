@@ -1,7 +1,8 @@
 -- The front of a text, read by the library: given bytes, digits that are cut off, and one turn of each loop. What is left, read on from
 -- here, answers for the whole. Assumes nothing.
 use Rattle.std.proofs.Common.{◌≡◌, set, append_assoc, map, ◌⊎◌, inl, inr, ⊎_elim, Bool, true, false, cond, leb, refl, ap, ◌∙◌, ℕ, zero, suc, ◌+◌, ◌*◌, ◌-◌, ◌<◌, ◌≤◌, ◌≢◌, List, [], ◌∷◌, ◌++◌, length, take, drop, get_or, arith, add-one, drop-cons}
-use Rattle.std.specs.Prelude.{MatchOption, Some, None, Option as Answer}
+use Rattle.std.specs.Prelude.{nat_eq}
+use lib.Pointwise.{pointwise}
 use Rattle.std.specs.List.{prefix_len}
 use Rattle.std.specs.Char.{is_ascii_digit}
 use Rattle.std.proofs.lemmas.Bool.Decides.{nat_tests}
@@ -9,20 +10,17 @@ use borrow.Author.Tests.{leb-true}
 use Rattle.signals.proofs.Bools.{both}
 use Rattle.std.proofs.Math.Option.{Option, none, some}
 use Rattle.std.proofs.Math.Seq.{take-suc-set}
-use denote.Ref.{Bor}
 use Rattle.trace_text.specs.Digits.{digit_of, number_from}
-use Rattle.trace_text.specs.Form.{Front, Entry, cycle_line, cycle_lines, with_entry, literal, hex_from, then, at_front, digits, or_end, legal_number, number}
-use Rattle.trace_text.specs.Parts.{Columns, columns, rest_after, number_of, then_digit}
-use Rattle.trace_text.proofs.Texts.{literal_back, literal_read}
+use Rattle.trace_text.specs.declared.Entry.{Entry}
+use Rattle.trace_text.specs.Form.{Front, cycle_line, cycle_lines, with_entry, literal, hex_from, then, at_front, digits, or_end, legal_number, number}
+use Rattle.trace_text.specs.Parts.{Columns, columns, number_of, then_digit}
 
 -- given bytes: what follows them, if the text begins with them
-pub literal_is : (given text : List ℕ) (r : Answer (Bor (List ℕ))) → MatchOption r ((rest : List ℕ) → text ≢ given ++ rest) (λ x. text ≡ given ++ x.now) → literal given text ≡ rest_after r
-literal_is given text (Some x) h = rw h (literal_back given x.now)
-literal_is given text None h = of (literal given text) refl
-  where
-    of : (o : Option (Front (Unit {0}))) → literal given text ≡ o → literal given text ≡ none
-    of none e = e
-    of (some f) e = absurd (h f.rest (literal_read given text f e))
+pub literal_by : (given text : List ℕ) → literal given text
+    ≡ cond (pointwise nat_eq (take (length given) text) given) (some (record { item = tt; rest = drop (length given) text })) none
+literal_by [] text = refl
+literal_by (g ∷ gs) [] = refl
+literal_by (g ∷ gs) (b ∷ text) = grind (arith, literal_by gs text)
 
 -- a number and the text after it
 abbrev pub with_rest : Option ℕ → List ℕ → Option (Front ℕ)
@@ -48,14 +46,6 @@ hex_short n (suc k) (b ∷ text) h = of (digit_of 16 b) (λ d. hex_short (n * 16
     of : (o : Option ℕ) → ((d : ℕ) → hex_from (n * 16 + d) k text ≡ none) → then (at_front o text) (λ d rest. hex_from (n * 16 + d) k rest) ≡ none
     of none more = refl
     of (some d) more = more d
-
--- the same, where the front was cut off
-module _ (k : ℕ) (text cut : List ℕ) (long : k ≤ length text) (cut_is : cut ≡ take k text) where
-  pub hex_none : number_of 16 0 cut ≡ none → hex_from 0 k text ≡ none
-  hex_none e = rw (hex_is 0 k text long, ← cut_is, e)
-
-  pub hex_some : (n : ℕ) (rest : List ℕ) → rest ≡ drop k text → number_of 16 0 cut ≡ some n → hex_from 0 k text ≡ some (record { item = n; rest = rest })
-  hex_some n rest rest_is e = rw (hex_is 0 k text long, ← cut_is, e, rest_is)
 
 -- a turn of the loop that reads digits
 module _ (base n i : ℕ) (digits : List ℕ) (whole : Option ℕ) (so_far : whole ≡ number_of base n (drop i digits)) (inside : i < length digits) where
@@ -124,10 +114,11 @@ module _ (text : List ℕ) (cycles i : ℕ) (control words : List ℕ) (whole : 
   pub lines_stop : i < cycles → cycle_line text ≡ none → whole ≡ none
   lines_stop h e = rw (one_more h, e) at so_far
 
-  pub lines_go_on : (byte word : ℕ) (rest : List ℕ) → i < cycles → i < length control → i < length words
-      → cycle_line text ≡ some (record { item = record { control = byte; word = word }; rest = rest })
-      → whole ≡ columns_after (take (i + 1) (set control i byte)) (take (i + 1) (set words i word)) (columns (cycle_lines (cycles - (i + 1)) rest))
-  lines_go_on byte word rest h k l e =
-      rw (add-one i, take-suc-set control i byte k, take-suc-set words i word l, ← add-one i)
-      ((rw (one_more h, e) at so_far)
-      ∙ entry_joins (take i control) (take i words) (record { control = byte; word = word }) (cycle_lines (cycles - (i + 1)) rest))
+  pub lines_go_on : (e : Entry) (rest : List ℕ) → i < cycles → i < length control → i < length words
+      → cycle_line text ≡ some (record { item = e; rest = rest })
+      → whole ≡ columns_after (take (i + 1) (set control i e.control)) (take (i + 1) (set words i e.word))
+      (columns (cycle_lines (cycles - (i + 1)) rest))
+  lines_go_on e rest h k l read =
+      rw (add-one i, take-suc-set control i e.control k, take-suc-set words i e.word l, ← add-one i)
+      ((rw (one_more h, read) at so_far)
+      ∙ entry_joins (take i control) (take i words) e (cycle_lines (cycles - (i + 1)) rest))

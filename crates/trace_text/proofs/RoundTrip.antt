@@ -10,7 +10,9 @@ use borrow.Author.Tests.{ltb-true, ltb-false, lt-ltb, le-ltb}
 use lib.ListN.{length}
 use lib.Dec.{ltb}
 use Rattle.signals.proofs.Bools.{clash}
-use Rattle.trace_text.specs.Form.{max_announced, Front, Entry, Header, Trace, Reading, trace, refused, header, cycle_lines, trace_from, reading, entry_lines, header_lines, text_of}
+use Rattle.trace_text.specs.declared.Entry.{Entry}
+use Rattle.trace_text.specs.declared.Parsed.{Parsed as Header}
+use Rattle.trace_text.specs.Form.{max_announced, Front, Trace, Reading, trace, refused, header, cycle_lines, trace_from, reading, entry_lines, header_lines, text_of}
 use Rattle.trace_text.specs.RoundTrip.{OfForm, TooMany, ReadsBack, Means}
 use Rattle.trace_text.proofs.Reading.{lines_read, after_header, reading_is}
 use Rattle.trace_text.proofs.Texts.{header_back, header_read, cycles_back, cycles_read}

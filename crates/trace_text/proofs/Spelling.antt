@@ -1,17 +1,18 @@
 -- Numbers spelled in digits and read back. A number's lowest k digits, read as a number, are the number where it is below
 -- the base's k-th power; and digits that are read are the spelling of what they stand for. Assumes nothing.
 use mathlib.Core.Path.{◌≡◌, refl, sym, ap, ◌∙◌}
-use mathlib.Core.Bool.{Bool, true, false, ◌&&◌, ◌||◌, false≢true}
+use mathlib.Core.Bool.{Bool, true, false, ◌||◌, false≢true}
 use mathlib.Core.List.{List, [], ◌∷◌, ◌++◌, map, map-append, append-nil}
 use mathlib.Core.Logic.{◌⊎◌, inl, inr, ⊎_elim}
 use mathlib.Core.Option.{Option, none, some}
 use Prim.Native.Nat.{ℕ, zero, suc, ◌+◌, ◌-◌, ◌*◌, ◌/◌, ◌%◌, ◌^◌, ◌<◌, ◌≤◌}
 use native.Mathlib.Nat.{add-zero, zero-add, add-suc, suc-add, pow-zero, pow-suc, div-lt_iff_lt-mul, div-add-mod', mod-lt, mod-eq_of_lt, div-eq_of_lt, mul-add-div_right, mul-add-mod_self_right, pow-le-pow_right, lt_of_lt_of_le}
 use native.Mathlib.Omega.{arith}
-use borrow.Author.Tests.{leb-true, ltb-true, ltb-false, le-leb, lt-leb, lt-ltb, le-ltb}
+use borrow.Author.Tests.{leb-true, le-leb, lt-leb, lt-ltb}
 use lib.ListN.{length, length-append}
 use lib.Seq.{append_snoc}
-use lib.Dec.{leb, ltb, eqb, eqb-suc-zero}
+use lib.Dec.{leb, eqb, eqb-suc-zero}
+use Rattle.std.proofs.lemmas.Bool.Decides.{nat_tests}
 use Rattle.signals.proofs.Bools.{either, both, clash}
 use Rattle.trace_text.specs.Digits.{digit_byte, digit_of, fixed, number_from, without_zeros, decimal}
 use Rattle.trace_text.specs.Form.{Front, digits, or_end, legal_number, number, hex_from, at_front, then}
@@ -20,44 +21,10 @@ use Rattle.trace_text.proofs.Digits.{digit_below, room_step}
 -- one digit, both ways
 
 pub digit_back : (base d : ℕ) → (d < 10) ⊎ ((16 ≤ base) × (d < 16)) → digit_of base (digit_byte d) ≡ some d
-digit_back base d h = ⊎_elim (λ t. figure (ltb-true d 10 t)) (λ f. letter (ltb-false d 10 f)) (either (ltb d 10))
-  where
-    figure : d < 10 → digit_of base (digit_byte d) ≡ some d
-    figure l =
-        let e : 48 + d - 48 ≡ d = omega arith in
-        rw (lt-ltb d 10 l, le-leb 48 (48 + d) (omega arith), le-leb (48 + d) 57 (omega arith), e)
-
-    letter : 10 ≤ d → digit_of base (digit_byte d) ≡ some d
-    letter l =
-        let k : (16 ≤ base) × (d < 16) = ⊎_elim (λ w. absurd (omega arith)) (λ w. w) h in
-        let e : 87 + d - 87 ≡ d = omega arith in
-        rw (le-ltb d 10 l, le-leb 48 (87 + d) (omega arith), lt-leb (87 + d) 57 (omega arith), le-leb 16 base k.0, le-leb 97 (87 + d) (omega arith), le-leb (87 + d) 102 (omega arith), e)
+digit_back base d h = grind (arith, nat_tests)
 
 pub digit_byte_lem : (base b d : ℕ) → digit_of base b ≡ some d → b ≡ digit_byte d
-digit_byte_lem base b d e = ⊎_elim figure (λ f. ⊎_elim (letter f) (neither f) (either (leb 16 base && (leb 97 b && leb b 102)))) (either (leb 48 b && leb b 57))
-  where
-    figure : leb 48 b && leb b 57 ≡ true → b ≡ digit_byte d
-    figure t =
-        let w = both (leb 48 b) (leb b 57) t in
-        let l : 48 ≤ b = leb-true 48 b w.0 in
-        let h : b ≤ 57 = leb-true b 57 w.1 in
-        let s : some (b - 48) ≡ some d = rw t at e in
-        let q : b - 48 ≡ d = cc in
-        rw (lt-ltb d 10 (omega arith)) (omega arith)
-
-    letter : leb 48 b && leb b 57 ≡ false → leb 16 base && (leb 97 b && leb b 102) ≡ true → b ≡ digit_byte d
-    letter f t =
-        let w = both (leb 97 b) (leb b 102) (both (leb 16 base) (leb 97 b && leb b 102) t).1 in
-        let l : 97 ≤ b = leb-true 97 b w.0 in
-        let h : b ≤ 102 = leb-true b 102 w.1 in
-        let s : some (b - 87) ≡ some d = rw (f, t) at e in
-        let q : b - 87 ≡ d = cc in
-        rw (le-ltb d 10 (omega arith)) (omega arith)
-
-    neither : leb 48 b && leb b 57 ≡ false → leb 16 base && (leb 97 b && leb b 102) ≡ false → b ≡ digit_byte d
-    neither f g =
-        let s : ◌≡◌ {A = Option ℕ} none (some d) = rw (f, g) at e in
-        absurd (clash cc)
+digit_byte_lem base b d e = grind (arith, nat_tests)
 
 -- digits that are all below a base
 abbrev pub Under : ℕ → List ℕ → Type 0
@@ -72,10 +39,6 @@ low base (suc k) n = low base k (n / base) ++ n % base ∷ []
 pub fixed_spells : (base k n : ℕ) → fixed base k n ≡ map digit_byte (low base k n)
 fixed_spells base zero n = refl
 fixed_spells base (suc k) n = rw (fixed_spells base k (n / base), map-append digit_byte (low base k (n / base)) (n % base ∷ []))
-
-pub fixed_length : (base k n : ℕ) → length (fixed base k n) ≡ k
-fixed_length base zero n = refl
-fixed_length base (suc k) n = rw (length-append (fixed base k (n / base)) (digit_byte (n % base) ∷ []), fixed_length base k (n / base)) (omega arith)
 
 pub low_length : (base k n : ℕ) → length (low base k n) ≡ k
 low_length base zero n = refl
@@ -296,3 +259,7 @@ fixed_read k text front e =
       text_is = r.text_is
           ∙ ap (λ (l : List ℕ). l ++ front.rest) (sym (rw (zero-add (length r.spelling), r.long, ← r.value) at s));
     }
+
+-- two hex digits stand for a byte
+pub byte_read : (text rest : List ℕ) (n : ℕ) → hex_from 0 2 text ≡ some (record { item = n; rest = rest }) → n < 256
+byte_read text rest n e = (fixed_read 2 text _ e).below

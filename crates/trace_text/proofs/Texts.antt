@@ -1,16 +1,19 @@
 -- Each part of a text, both ways: what is written is read back, and what is read was written so. Assumes nothing.
 use mathlib.Core.Path.{◌≡◌, refl, ap, ◌∙◌}
-use mathlib.Core.Bool.{Bool, true, false, cond}
+use mathlib.Core.Bool.{Bool, true, false}
 use mathlib.Core.List.{List, [], ◌∷◌, ◌++◌, append_assoc}
 use mathlib.Core.Option.{Option, none, some}
 use Prim.Native.Nat.{ℕ, zero, suc, ◌<◌}
-use borrow.Author.Tests.{eqb-true, eq-eqb}
+use borrow.Author.Tests.{eq-eqb}
 use lib.ListN.{length}
 use lib.Seq.{append_snoc}
-use lib.Dec.{eqb}
+use Rattle.std.proofs.lemmas.Bool.Decides.{nat_tests}
+use native.Mathlib.Omega.{arith}
 use Rattle.signals.proofs.Bools.{clash}
 use Rattle.trace_text.specs.Digits.{bytes, fixed, decimal}
-use Rattle.trace_text.specs.Form.{Front, then, or_else, literal, switch, switch_line, number, announced, hex_from, Entry, cycle_line, entry_line, entry_lines, cycle_lines, with_entry, Header, header, header_lines}
+use Rattle.trace_text.specs.declared.Entry.{Entry}
+use Rattle.trace_text.specs.declared.Parsed.{Parsed as Header}
+use Rattle.trace_text.specs.Form.{Front, then, or_else, literal, switch, switch_line, number, announced, hex_from, cycle_line, entry_line, entry_lines, cycle_lines, with_entry, header, header_lines}
 use Rattle.trace_text.specs.RoundTrip.{Holds, AllHold}
 use Rattle.trace_text.proofs.Spelling.{number_back, number_read, hex_fixed, fixed_read}
 
@@ -34,12 +37,7 @@ literal_back (g ∷ given) rest = rw (eq-eqb g g refl) (literal_back given rest)
 pub literal_read : (given text : List ℕ) (front : Front (Unit {0})) → literal given text ≡ some front → text ≡ given ++ front.rest
 literal_read [] text front e = ap (λ (f : Front (Unit {0})). f.rest) (let q : record { item = tt; rest = text } ≡ front = cc in q)
 literal_read (g ∷ given) [] front e = absurd (clash cc)
-literal_read (g ∷ given) (b ∷ text) front e = of (eqb b g) refl e (literal_read given text front)
-  where
-    of : (s : Bool) → eqb b g ≡ s → cond s (literal given text) none ≡ some front → (literal given text ≡ some front → text ≡ given ++ front.rest)
-        → b ∷ text ≡ g ∷ (given ++ front.rest)
-    of true s q more = ap (λ (x : ℕ). x ∷ text) (eqb-true b g s) ∙ ap (λ (l : List ℕ). g ∷ l) (more q)
-    of false s q more = absurd (clash cc)
+literal_read (g ∷ given) (b ∷ text) front e = grind (arith, nat_tests, literal_read given text front)
 
 -- the switch
 

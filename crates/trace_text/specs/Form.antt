@@ -2,6 +2,8 @@
 use Rattle.std.specs.Prelude.{ℕ, zero, suc, ◌+◌, ◌*◌, Bool, true, false, cond, ◌&&◌, ◌||◌, List, [], ◌∷◌, ◌++◌, map, length, eqb, leb, ltb}
 use Rattle.std.proofs.Math.Option.{Option, none, some}
 use Rattle.signals.specs.Tables.{Row, ◌⇐◌, first_applying}
+use Rattle.trace_text.specs.declared.Entry.{Entry}
+use Rattle.trace_text.specs.declared.Parsed.{Parsed as Header}
 use Rattle.trace_text.specs.Digits.{bytes, digit_of, fixed, number_from, decimal}
 
 -- the longest trace that a text may announce
@@ -96,11 +98,6 @@ abbrev pub hex_from : (n k : ℕ) → List ℕ → Option (Front ℕ)
 hex_from n zero text = some (record { item = n; rest = text })
 hex_from n (suc k) text = then (hex_digit text) λ d rest. hex_from (n * 16 + d) k rest
 
--- what one cycle line records
-pub record Entry : Type 0 where
-  pub control : ℕ
-  pub word : ℕ
-
 -- c= with two hex digits of control and eight of data
 abbrev pub cycle_line : List ℕ → Option (Front Entry)
 cycle_line text =
@@ -124,11 +121,6 @@ at_end (b ∷ text) = none
 abbrev pub cycle_lines : (n : ℕ) → List ℕ → Option (List Entry)
 cycle_lines zero text = at_end text
 cycle_lines (suc n) text = then (cycle_line text) λ e rest. with_entry e (cycle_lines n rest)
-
--- what the header says
-pub record Header : Type 0 where
-  pub seq : Bool
-  pub cycles : ℕ
 
 -- the three header lines
 abbrev pub header : List ℕ → Option (Front Header)

@@ -1,5 +1,6 @@
 -- What `parse` promises of any text: it answers what the form reads, with the trace in two arrays. Assumes nothing.
-use Rattle.std.specs.Prelude.{ℕ, ◌≤◌, Bool, true, false, List, ◌≡◌, length, take, Result, Ok, Err}
+use Rattle.std.specs.Prelude.{ℕ, ◌≤◌, List, ◌≡◌, length, take, Result, Ok, Err}
+use Rattle.std.specs.Result.{IfOk, OnErr}
 use Rattle.signals.specs.Refusals.{number_of}
 use Rattle.signals.specs.declared.Refusal.{Refusal}
 use Rattle.trace_text.specs.Form.{Reading, trace, refused, reading}
@@ -10,16 +11,8 @@ abbrev pub parsed : Result Parsed Refusal → (controls words : List ℕ) → Re
 parsed (Ok p) controls words = trace (record { seq = p.seq; controls = take p.cycles controls; words = take p.cycles words })
 parsed (Err why) controls words = refused (number_of why)
 
-abbrev pub is_trace : Result Parsed Refusal → Bool
-is_trace (Ok p) = true
-is_trace (Err why) = false
-
-abbrev pub cycles_of : Result Parsed Refusal → ℕ
-cycles_of (Ok p) = p.cycles
-cycles_of (Err why) = 0
-
 -- what `parse` answers: what the form reads, and no more cycles than the arrays hold; refused, it leaves them as they were
 pub record Parses (text controls words : List ℕ) (r : Result Parsed Refusal) (exitControls exitWords : List ℕ) : Type 0 where
   pub reads : reading text ≡ parsed r exitControls exitWords
-  pub within : (cycles_of r ≤ length exitControls) × (cycles_of r ≤ length exitWords)
-  pub kept : is_trace r ≡ false → (exitControls ≡ controls) × (exitWords ≡ words)
+  pub within : IfOk r (λ p. (p.cycles ≤ length exitControls) × (p.cycles ≤ length exitWords))
+  pub kept : OnErr r ((exitControls ≡ controls) × (exitWords ≡ words))

@@ -4,10 +4,8 @@ use Rattle.std.specs.Prelude.{ℕ, ◌+◌, ◌*◌, List, [], ◌∷◌, map, S
 use Rattle.std.proofs.Math.Option.{Option, none, some}
 use denote.Ref.{Bor}
 use Rattle.trace_text.specs.Digits.{digit_of}
-use Rattle.trace_text.specs.Form as form
-use Rattle.trace_text.specs.Form.{Front, Header}
 use Rattle.trace_text.specs.declared.Entry.{Entry}
-use Rattle.trace_text.specs.declared.Parsed.{Parsed}
+use Rattle.trace_text.specs.Form.{Front}
 
 -- an answer as an option of the form's
 abbrev pub found : {A : Type 0} → Answer A → Option A
@@ -24,16 +22,6 @@ abbrev pub front : {A : Type 0} → Answer (A × Bor (List ℕ)) → Option (Fro
 front None = none
 front (Some read) = some (record { item = read.0; rest = read.1.now })
 
--- a cycle line's entry, as the form has it
-abbrev pub entry_front : Answer (Entry × Bor (List ℕ)) → Option (Front form.Entry)
-entry_front None = none
-entry_front (Some read) = some (record { item = record { control = read.0.control; word = read.0.word }; rest = read.1.now })
-
--- the header, as the form has it
-abbrev pub header_front : Answer (Parsed × Bor (List ℕ)) → Option (Front Header)
-header_front None = none
-header_front (Some read) = some (record { item = record { seq = read.0.seq; cycles = read.0.cycles }; rest = read.1.now })
-
 -- a digit, then what depends on it
 abbrev pub then_digit : Option ℕ → (ℕ → Option ℕ) → Option ℕ
 then_digit none go = none
@@ -49,7 +37,7 @@ pub record Columns : Type 0 where
   pub controls : List ℕ
   pub words : List ℕ
 
-abbrev pub columns : Option (List form.Entry) → Option Columns
+abbrev pub columns : Option (List Entry) → Option Columns
 columns none = none
 columns (some es) = some (record { controls = map (λ e. e.control) es; words = map (λ e. e.word) es })
 

@@ -1,7 +1,9 @@
 -- What each answer of `reading` means: a trace is read exactly from its text, 3 is given exactly for a good header that announces
 -- too many cycles, and 9 exactly for every other text. `proofs/RoundTrip.antt` has the proofs. Assumes nothing.
 use Rattle.std.specs.Prelude.{ℕ, ◌<◌, ◌≤◌, ◌^◌, Bool, List, [], ◌∷◌, ◌++◌, ◌↔◌, ◌≡◌, length}
-use Rattle.trace_text.specs.Form.{max_announced, Trace, trace, refused, Entry, Header, trace_from, reading, header_lines, text_of}
+use Rattle.trace_text.specs.declared.Entry.{Entry}
+use Rattle.trace_text.specs.declared.Parsed.{Parsed as Header}
+use Rattle.trace_text.specs.Form.{max_announced, Trace, trace, refused, trace_from, reading, header_lines, text_of}
 
 -- what a byte of control and 32 bits of data can hold; the control byte need not be legal
 pub record Holds (e : Entry) : Type 0 where

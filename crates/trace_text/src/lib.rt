@@ -11,7 +11,7 @@ ghost use Rattle.std.specs.List.{prefix_len};
 ghost use Rattle.trace_text.specs.Digits.{digit_of};
 ghost use Rattle.trace_text.specs.Form as form;
 ghost use Rattle.trace_text.specs.Parsing.{Parses};
-ghost use Rattle.trace_text.specs.Parts.{rest_after, front, found, number_of, header_front, entry_front, columns, columns_read};
+ghost use Rattle.trace_text.specs.Parts.{rest_after, front, found, number_of, columns, columns_read};
 
 use signals::Refusal;
 
@@ -21,11 +21,11 @@ pub const MAX_ANNOUNCED: usize = 4096;
 // How many digits the announced number may have.
 const MAX_DIGITS: usize = 5;
 
-// What a cycle line records.
+// What a cycle line records. It is public for what is said of the form (`OfForm`), and no public call answers it.
 #[derive(Clone, Copy, Debug, PartialEq, Eq)]
-struct Entry {
-    control: u8,
-    word: u32,
+pub struct Entry {
+    pub control: u8,
+    pub word: u32,
 }
 
 // What the header of a text says: whether its counter is checked, and how many cycles follow.
@@ -36,6 +36,7 @@ pub struct Parsed {
 }
 
 // Given bytes at the front of a text.
+#[tactic(auto, using(crate::proofs::Parts::literal_by))]
 fn literal<'a>(text: &'a [u8], given: &[u8]) -> Option<&'a [u8]>
     ensures { form.literal given.now text.now ≡ rest_after result }
 {
@@ -52,7 +53,7 @@ fn switch(text: &[u8]) -> Option<(bool, &[u8])>
     }
 }
 
-// The digit of a byte in base 10 or 16.
+// The digit of a byte in base 10 or 16. By hand: std's `to_digit` takes upper-case letters too, which the form refuses.
 fn digit_of(base: u32, byte: u8) -> Option<u32>
     ensures { digit_of base byte ≡ found result }
 {
@@ -64,7 +65,8 @@ fn digit_of(base: u32, byte: u8) -> Option<u32>
 }
 
 // The number that digits in base 10 or 16 stand for, the highest first, if all are digits. By hand, since `from_str_radix` takes a sign
-// and upper-case letters too, which the form refuses.
+// and upper-case letters too.
+#[tactic(auto, using(crate::proofs::Digits::grown, crate::proofs::Digits::room, crate::proofs::Parts::number_goes_on))]
 fn number(base: u32, digits: &[u8]) -> Option<u32>
     requires { (10 ≤ base) × (base ^ length digits.now ≤ 2 ^ 32) }
     ensures { number_of base 0 digits.now ≡ found result }
@@ -79,12 +81,14 @@ fn number(base: u32, digits: &[u8]) -> Option<u32>
 
 // How many decimal digits a text begins with.
 fn digit_count(text: &[u8]) -> usize
-    ensures { result ≡ prefix_len is_ascii_digit text.now }
+    ensures count { result ≡ prefix_len is_ascii_digit text.now }
+    ensures few { result ≤ length text.now }
 {
     text.iter().take_while(|byte| byte.is_ascii_digit()).count()
 }
 
 // A number of one to five digits, with no leading zero but 0 itself.
+#[tactic(auto, using(crate::proofs::Parts::number_refused))]
 fn short_number(text: &[u8]) -> Option<(u32, &[u8])>
     ensures { form.number text.now ≡ front result }
 {
@@ -106,6 +110,7 @@ fn announced(text: &[u8]) -> Option<(u32, &[u8])>
 }
 
 // So many hex digits, the highest first.
+#[tactic(auto, using(crate::proofs::Parts::hex_is, crate::proofs::Parts::hex_short))]
 fn hex(text: &[u8], count: usize) -> Option<(u32, &[u8])>
     requires { 16 ^ count ≤ 2 ^ 32 }
     ensures { form.hex_from 0 count text.now ≡ front result }
@@ -115,8 +120,9 @@ fn hex(text: &[u8], count: usize) -> Option<(u32, &[u8])>
 }
 
 // One cycle line.
+#[tactic(auto, using(crate::proofs::Spelling::byte_read))]
 fn cycle_line(text: &[u8]) -> Option<(Entry, &[u8])>
-    ensures { form.cycle_line text.now ≡ entry_front result }
+    ensures { form.cycle_line text.now ≡ front result }
 {
     let rest = literal(text, b"c=")?;
     let (control, rest) = hex(rest, 2)?;
@@ -128,7 +134,7 @@ fn cycle_line(text: &[u8]) -> Option<(Entry, &[u8])>
 
 // The three header lines.
 fn header(text: &[u8]) -> Option<(Parsed, &[u8])>
-    ensures { form.header text.now ≡ header_front result }
+    ensures { form.header text.now ≡ front result }
 {
     let rest = literal(text, b"kind=stream\n")?;
     let (seq, rest) = switch(rest)?;
@@ -138,6 +144,7 @@ fn header(text: &[u8]) -> Option<(Parsed, &[u8])>
 }
 
 // So many cycle lines and nothing after them, written into two arrays and not one of entries, as `check_stream` is lent two.
+#[tactic(auto, using(crate::proofs::Parts::lines_stop))]
 fn cycle_lines(text: &[u8], cycles: usize, control: &mut [u8], words: &mut [u32]) -> Option<()>
     requires { (cycles ≤ length control.old) × (cycles ≤ length words.old) }
     ensures { columns (form.cycle_lines cycles text.now) ≡ columns_read result (take cycles control.new) (take cycles words.new) }
@@ -154,6 +161,7 @@ fn cycle_lines(text: &[u8], cycles: usize, control: &mut [u8], words: &mut [u32]
 }
 
 // A whole text. The trace is written into two arrays that hold the longest; they are left as they were where the text is refused.
+#[tactic(auto, unfolding(crate::specs::Form::reading))]
 pub fn parse(
     text: &[u8],
     control: &mut [u8; MAX_ANNOUNCED],
