@@ -12,7 +12,9 @@ use lib.Seq.{take_all, take-append-add, length-take-le}
 use lib.Dec.{leb}
 use Rattle.signals.proofs.Bools.{either, clash}
 use Rattle.trace_text.specs.Digits.{decimal}
-use Rattle.trace_text.specs.Form.{max_announced, Entry, Header, Trace, Reading, reading, switch_line, entry_lines, header_lines, text_of}
+use Rattle.trace_text.specs.declared.Entry.{Entry}
+use Rattle.trace_text.specs.declared.Parsed.{Parsed as Header}
+use Rattle.trace_text.specs.Form.{max_announced, Trace, Reading, reading, switch_line, entry_lines, header_lines, text_of}
 use Rattle.trace_text.specs.RoundTrip.{OfForm, TooMany}
 use Rattle.trace_text.proofs.RoundTrip.{View, read, many, bad, view, many_reads}
 use Rattle.bench_text.specs.Report.{max_text, report_on, report_of}

@@ -1,5 +1,6 @@
 -- Digits without leading zeros, and how many a number has. Assumes nothing.
-use Rattle.std.proofs.Common.{◌≡◌, ap, ◌∙◌, Bool, true, false, cond, List, [], ◌∷◌, ℕ, suc, ◌+◌, ◌-◌, ◌/◌, ◌%◌, ◌<◌, ◌≤◌, min, length, drop, leb, arith, length-append}
+use Rattle.std.proofs.Common.{◌≡◌, ◌∙◌, Bool, true, false, cond, List, [], ◌∷◌, ℕ, suc, ◌+◌, ◌-◌, ◌/◌, ◌%◌, ◌<◌, ◌≤◌, min, length, take, drop, leb, arith, length-drop}
+use Rattle.std.proofs.Math.Seq.{take_all}
 use Rattle.std.specs.List.{prefix_len}
 use Rattle.trace_text.specs.Digits.{digit_byte, without_zeros, fixed, decimal}
 
@@ -16,15 +17,17 @@ zeros_go (d ∷ e ∷ ds) h = of (leb d 48) (zeros_go (e ∷ ds) (omega arith))
         rw e more
     of false more = let e : min 0 (length (d ∷ e ∷ ds) - 1) ≡ 0 = omega arith in rw e
 
+-- the same, cut off at an index
+pub zeros_cut : (digits : List ℕ) (first : ℕ) → 0 < length digits → first ≡ min (prefix_len (λ d. leb d 48) digits) (length digits - 1) →
+    take (length digits - first) (drop first digits) ≡ without_zeros digits
+zeros_cut digits first h e =
+    take_all (length digits - first) (drop first digits) (omega (arith, length-drop first digits)) ∙ rw e (zeros_go digits h)
+
 -- digits without zeros are no more
 pub without_le : (digits : List ℕ) → length (without_zeros digits) ≤ length digits
 without_le [] = omega arith
 without_le (d ∷ []) = omega arith
-without_le (d ∷ e ∷ ds) = one (leb d 48) (without_le (e ∷ ds))
-  where
-    one : (b : Bool) → length (without_zeros (e ∷ ds)) ≤ length (e ∷ ds) → length (cond b (without_zeros (e ∷ ds)) (d ∷ e ∷ ds)) ≤ length (d ∷ e ∷ ds)
-    one true h = omega arith
-    one false h = omega arith
+without_le (d ∷ e ∷ ds) = grind (arith, without_le (e ∷ ds))
 
 -- a number has at most five digits
 pub decimal_short : (n : ℕ) → length (decimal n) ≤ 5
@@ -41,6 +44,3 @@ decimal_four n h =
 pub decimal_zero : length (decimal 0) ≤ 1
 unfolding decimal
 decimal_zero = omega arith
-
--- how long what is put together is
-pub ruleset lengths = (length-append, decimal_short)

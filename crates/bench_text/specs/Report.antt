@@ -1,5 +1,6 @@
 -- Document 01, "Bench text", with request T-09: the report of a text, and what `report` promises. Assumes nothing.
-use Rattle.std.specs.Prelude.{ℕ, cond, List, [], ◌∷◌, ◌++◌, ◌≡◌, length, drop, ltb, Result, Ok, Err}
+use Rattle.std.specs.Prelude.{ℕ, cond, List, [], ◌∷◌, ◌++◌, ◌≡◌, length, drop, ltb, Result}
+use Rattle.std.specs.Result.{result_unwrap_or}
 use Rattle.signals.specs.Tables.{Row, ◌⇐◌, first_applying}
 use Rattle.signals.specs.Refusals.{refusal_of, accepts}
 use Rattle.signals.specs.declared.Refusal.{Refusal}
@@ -61,15 +62,10 @@ report_of text = report_on (reading text)
 abbrev pub out_grounds : (given out : List ℕ) → List (Row ℕ)
 out_grounds given out = 7 ⇐ ltb (length out) (length given) ∷ []
 
--- how many bytes were written
-abbrev pub count_of : Result ℕ Refusal → ℕ
-count_of (Ok count) = count
-count_of (Err why) = 0
-
 -- What is given stands at the start of the output, and what lies beyond stays; an output that is refused is left as it was.
 pub record Delivers (given out : List ℕ) (r : Result ℕ Refusal) (exit : List ℕ) : Type 0 where
   pub refusal : refusal_of r ≡ first_applying (out_grounds given out)
-  pub count : count_of r ≡ cond (accepts (first_applying (out_grounds given out))) (length given) 0
+  pub count : result_unwrap_or r 0 ≡ cond (accepts (first_applying (out_grounds given out))) (length given) 0
   pub writes : exit ≡ cond (accepts (first_applying (out_grounds given out))) (given ++ drop (length given) out) out
 
 -- what `report` promises of any text and any output

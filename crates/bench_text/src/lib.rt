@@ -6,11 +6,12 @@
 
 mod write;
 
-ghost use Rattle.std.specs.Prelude.{◌≡◌};
-ghost use Rattle.bench_text.specs.Report.{max_text, max_report, report_of, Reports};
+ghost use Rattle.std.specs.Prelude.{◌≡◌, MatchResult, Ok, Err};
+ghost use Rattle.stream_checker.specs.Written.{written};
+ghost use Rattle.bench_text.specs.Report.{max_text, max_report, lines, report_of, Reports};
 
 use signals::Refusal;
-use stream_checker::check_stream;
+use stream_checker::{Checked, check_stream};
 use trace_text::{MAX_ANNOUNCED, Parsed, parse};
 use write::{Report, checked_report, refused_report};
 
@@ -20,7 +21,8 @@ pub const MAX_TEXT: usize = 53281;
 // The most bytes that a report has.
 pub const MAX_REPORT: usize = 84;
 
-// The two as values; each is the definitions'.
+// The two as functions too: the length of an array is no call, so that each is a constant, and a public function that promises that it is
+// the definitions'.
 pub fn max_text() -> usize
     ensures { result ≡ max_text }
 {
@@ -33,22 +35,26 @@ pub fn max_report() -> usize
     MAX_REPORT
 }
 
-// The report of a text.
+// How many cycles a text announces, and what is found in its trace. Two arrays with room for the longest, as `parse` is lent two.
 #[tactic(auto, unfolding(crate::specs::Report::report_of))]
-fn made(text: &[u8]) -> Report
-    ensures { result ≡ report_of text.now }
+fn checked(text: &[u8]) -> Result<(usize, Checked), Refusal>
+    ensures { MatchResult result
+        (λ read. report_of text.now ≡ lines read.0 (written (Ok read.1)))
+        (λ why. report_of text.now ≡ lines 0 (written (Err why))) }
 {
     let mut control = [0; MAX_ANNOUNCED];
     let mut words = [0; MAX_ANNOUNCED];
-    match parse(text, &mut control, &mut words) {
-        Ok(Parsed { seq, cycles }) => match check_stream(
-            &control[..cycles],
-            &words[..cycles],
-            seq,
-        ) {
-            Ok(checked) => checked_report(cycles, checked),
-            Err(why) => refused_report(why),
-        },
+    let Parsed { seq, cycles } = parse(text, &mut control, &mut words)?;
+    let found = check_stream(&control[..cycles], &words[..cycles], seq)?;
+    Ok((cycles, found))
+}
+
+// The report of a text.
+fn made(text: &[u8]) -> Report
+    ensures { result ≡ report_of text.now }
+{
+    match checked(text) {
+        Ok((cycles, found)) => checked_report(cycles, found),
         Err(why) => refused_report(why),
     }
 }

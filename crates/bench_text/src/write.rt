@@ -1,14 +1,12 @@
 // Writes the lines of a report.
 //
-// `specs/Report.antt` has the lines. A report is seen as the list of its bytes.
-ghost use Rattle.std.specs.Prelude.{◌≡◌, ◌+◌, ◌≤◌, ◌%◌, ◌++◌, [], length, nat_le, Ok};
+// `specs/Report.antt` has the lines.
+ghost use Rattle.std.specs.Prelude.{◌≡◌, ◌+◌, ◌≤◌, ◌%◌, ◌++◌, [], length, nat_le, Ok, Err};
 ghost use Rattle.std.specs.List.{prefix_len};
-ghost use Rattle.signals.specs.Refusals.{number_of};
-ghost use Rattle.signals.specs.Written.{refused};
 ghost use Rattle.stream_checker.specs.Written.{written, rule_name};
 ghost use Rattle.trace_text.specs.Digits.{digit_byte, fixed, without_zeros, decimal};
 ghost use Rattle.bench_text.specs.Report as spec;
-ghost use Rattle.bench_text.specs.Report.{seven_lines, verdict_lines, lines, rule_bytes};
+ghost use Rattle.bench_text.specs.Report.{seven_lines, lines, rule_bytes};
 
 use signals::Refusal;
 use std::marker::Model;
@@ -17,7 +15,8 @@ use stream_checker::{Checked, Rule};
 // Room for seven lines whose numbers have five digits each.
 const ROOM: usize = 91;
 
-// A report, as far as it is written.
+// A report, as far as it is written: a room and how much of it is used, as nothing here takes memory from a heap. It is seen as the list of
+// its bytes. The kit's `ArrayString` would be no plainer: it asks for room as `put` does, and holds text, where the promise is of bytes.
 #[derive(Drop)]
 pub struct Report {
     room: [u8; ROOM],
@@ -66,7 +65,8 @@ impl Report {
     // A line of a key and its value.
     fn line(&mut self, key: &[u8], value: &[u8])
         requires { length self.old + length key.now + length value.now + 1 ≤ ROOM }
-        ensures { self.new ≡ self.old ++ spec.line key.now value.now }
+        ensures written { self.new ≡ self.old ++ spec.line key.now value.now }
+        ensures long { length self.new ≡ length self.old + length key.now + length value.now + 1 }
     {
         self.put(key);
         self.put(value);
@@ -77,7 +77,8 @@ impl Report {
     #[tactic(auto, unfolding(trace_text::specs::Digits::decimal))]
     fn number_line(&mut self, key: &[u8], n: usize)
         requires { length self.old + length key.now + 6 ≤ ROOM }
-        ensures { self.new ≡ self.old ++ spec.line key.now (decimal n) }
+        ensures written { self.new ≡ self.old ++ spec.line key.now (decimal n) }
+        ensures long { length self.new ≤ length self.old + length key.now + 6 }
     {
         self.line(key, significant(&five_digits(n)));
     }
@@ -90,7 +91,7 @@ fn figure(n: usize) -> u8
     b'0' + (n % 10) as u8
 }
 
-// A number's lowest five decimal digits. By hand, which is no longer: what std prints of a number is the report's only below 100,000, and
+// A number's lowest five decimal digits. By hand, in no more lines: what std prints of a number is the report's only below 100,000, and
 // each count would have to bring that bound along from the checker.
 fn five_digits(n: usize) -> [u8; 5]
     ensures { result ≡ fixed 10 5 n }
@@ -116,6 +117,7 @@ fn leading_zeros(digits: &[u8]) -> usize
 }
 
 // Digits without leading zeros, of which the last stays.
+#[tactic(auto, using(crate::proofs::Digits::zeros_cut))]
 fn significant(digits: &[u8]) -> &[u8]
     requires { 1 ≤ length digits.now }
     ensures { result.now ≡ without_zeros digits.now }
@@ -124,7 +126,7 @@ fn significant(digits: &[u8]) -> &[u8]
     &digits[first..]
 }
 
-// The bytes of a rule's name.
+// The bytes of a rule's name, of which a line is made: `Display` would write them to a formatter.
 #[tactic(auto, unfolding(trace_text::specs::Digits::decimal))]
 fn rule_bytes(rule: Rule) -> &'static [u8]
     ensures { result.now ≡ rule_bytes (rule_name rule) }
@@ -149,7 +151,6 @@ struct Said<'a> {
 }
 
 // The seven lines of a report.
-#[tactic(auto, using(crate::proofs::Digits::lengths))]
 fn seven_lines(said: Said) -> Report
     requires { (length said.kind.now ≤ 6) × (length said.verdict.now ≤ 7) × (length said.rule.now ≤ 5) }
     ensures { result ≡ seven_lines said.entry.kind.now said.entry.cycles said.entry.verdict.now said.entry.rule.now said.entry.at said.entry.handshakes said.entry.clears }
@@ -166,11 +167,11 @@ fn seven_lines(said: Said) -> Report
 }
 
 // The report of a refusal.
-#[tactic(auto, using(crate::proofs::Digits::lengths), unfolding(trace_text::specs::Digits::decimal))]
+#[tactic(auto, unfolding(trace_text::specs::Digits::decimal))]
 pub fn refused_report(why: Refusal) -> Report
-    ensures { result ≡ verdict_lines 0 0 0 (refused (number_of why)) }
+    ensures { result ≡ lines 0 (written (Err why)) }
 {
-    let digits = five_digits(usize::from(why.number()));
+    let digits = five_digits(usize::from(u8::from(why)));
     seven_lines(Said {
         kind: b"none",
         cycles: 0,
@@ -183,7 +184,7 @@ pub fn refused_report(why: Refusal) -> Report
 }
 
 // The report of what is found in a trace of so many cycles.
-#[tactic(auto, using(crate::proofs::Digits::lengths), unfolding(trace_text::specs::Digits::decimal))]
+#[tactic(auto, unfolding(trace_text::specs::Digits::decimal))]
 pub fn checked_report(cycles: usize, checked: Checked) -> Report
     ensures { result ≡ lines cycles (written (Ok checked)) }
 {
