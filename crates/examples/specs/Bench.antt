@@ -2,7 +2,6 @@
 -- request T-09 asks, and S1 to S8 with stores as request T-07 asks, as one list of questions with the answers that the papers give
 -- to them. `proofs/Bench.antt` has the claim: these are the definitions' answers. Assumes nothing.
 use Rattle.std.specs.Prelude.{ℕ, Bool, true, false, List, [], ◌∷◌, map, length}
-use Rattle.std.proofs.Math.Option.{Option, none, some}
 use Rattle.signals.specs.Judging.{clean, broken}
 use Rattle.signals.specs.Written.{RuleName, number, seq, Judgement}
 use Rattle.signals.specs.Written as written
@@ -13,7 +12,9 @@ use Rattle.mem_checker.specs.Verdicts as mem-checker
 use Rattle.mem_checker.specs.Verdicts.{check_mem}
 use Rattle.addressgen.specs.declared.Settings.{Settings}
 use Rattle.addressgen.specs.Stepping.{start, addresses}
+use Rattle.addressgen.specs.Run as addressgen
 use Rattle.addressgen.specs.Run.{ran_of}
+use Rattle.examples.specs.Asked.{Example, ◌gives◌, unless_refused}
 
 -- a stream trace with its switch: control byte and data of each cycle; a memory trace with its protocol: control byte and add of
 -- each cycle; a generator at its start with its settings, asked for so many addresses
@@ -52,25 +53,15 @@ stream_answer a = judged a.judgement a.clears false
 abbrev mem_answer : mem-checker.Answer → Answer
 mem_answer a = judged a.judgement 0 a.«open»
 
-abbrev generator_answer : Settings → (count : ℕ) → (refusal : Option ℕ) → Answer
-generator_answer s count none = yielded count (addresses s start count)
-generator_answer s count (some n) = not_run n
+abbrev generator_answer : Settings → addressgen.Answer → Answer
+generator_answer s ran = unless_refused not_run ran.refusal (yielded ran.count (addresses s start ran.count))
 
 -- the definitions' answer; of a memory trace's data and r_data only the lengths count, and the generator's buffer has n words
 abbrev pub answer : Question → Answer
 answer (stream seq_on cycles) = stream_answer (check_stream (firsts cycles) (seconds cycles) seq_on)
 answer (memory protocol cycles) =
     mem_answer (check_mem protocol (firsts cycles) (seconds cycles) (length cycles) (length cycles))
-answer (generator s n) = generator_answer s (ran_of s start n n).count (ran_of s start n n).refusal
-
--- a question with the answer that the papers give to it
-pub record Example : Type 0 where
-  pub question : Question
-  pub expected : Answer
-
-infix 80 ◌gives◌
-abbrev pub ◌gives◌ : Question → Answer → Example
-question gives expected = record { question = question; expected = expected }
+answer (generator s n) = generator_answer s (ran_of s start n n)
 
 -- the settings of P9 to P11, which are loads and differ in the mask alone
 abbrev pub p9_settings : (mask : ℕ) → Settings
@@ -86,7 +77,7 @@ transfer store mask d0 d1 total s0 s1 s2 =
     record { base = 0x1000; d0 = d0; d1 = d1; total = total; s0 = s0; s1 = s1; s2 = s2; mask = mask; store = store }
 
 -- Where the papers name no handshakes or no clears, they are those of the rules. Each generator is asked for 8 addresses.
-abbrev pub examples : List Example
+abbrev pub examples : List (Example Question Answer)
 examples =
     -- P1 empty stream trace: clean, 0
     stream false [] gives is_clean 0 0 false

@@ -1,13 +1,14 @@
 -- Request T-14: addresses by their number and the addresses that two generators share, N1 to N8 and O1 to O6, as one list of questions with
 -- their answers. `proofs/Numbered.antt` has the claim: these are the definitions' answers. Assumes nothing.
 use Rattle.std.specs.Prelude.{ℕ, true, false, List, [], ◌∷◌}
-use Rattle.std.proofs.Math.Option.{Option, none, some}
+use Rattle.std.proofs.Math.Option.{none}
 use Rattle.signals.specs.Tables.{first_applying}
 use Rattle.addressgen.specs.declared.Settings.{Settings}
 use Rattle.address_at.specs.ByNumber.{address_of}
 use Rattle.address_at.specs.AddressAt as address-at
 use Rattle.address_at.specs.AddressAt.{answer_by}
 use Rattle.address_at.specs.Overlap.{grounds, listed}
+use Rattle.examples.specs.Asked.{Example, ◌gives◌, unless_refused}
 use Rattle.examples.specs.Bench.{p9_settings, p12_settings, transfer}
 
 -- the address of an iteration, or the iterations that share theirs with a second generator, with so many words of room
@@ -21,27 +22,12 @@ pub data Answer : Type 0 where
   refused : ℕ → Answer
 
 abbrev address_answer : address-at.Answer → Answer
-address_answer found = given found.refusal
-  where
-    given : Option ℕ → Answer
-    given none = address found.address
-    given (some n) = refused n
-
-abbrev overlap_answer : Settings → Settings → (refusal : Option ℕ) → Answer
-overlap_answer first second none = lists (listed address_of first second none)
-overlap_answer first second (some n) = refused n
+address_answer found = unless_refused refused found.refusal (address found.address)
 
 abbrev pub answer : Question → Answer
 answer (at s i) = address_answer (answer_by address_of s i)
-answer (overlap first second room) = overlap_answer first second (first_applying (grounds first second room))
-
-pub record Example : Type 0 where
-  pub question : Question
-  pub expected : Answer
-
-infix 80 ◌gives◌
-abbrev pub ◌gives◌ : Question → Answer → Example
-question gives expected = record { question = question; expected = expected }
+answer (overlap first second room) =
+    unless_refused refused (first_applying (grounds first second room)) (lists (listed address_of first second none))
 
 -- a scan of 65,536 words in planes of 64 lines of 128
 abbrev scan : Settings
@@ -58,7 +44,7 @@ scan =
       store = false;
     }
 
-abbrev pub examples : List Example
+abbrev pub examples : List (Example Question Answer)
 examples =
     -- N1 address 40,000 of a scan: word 64 of line 56 of plane 4
     at scan 40000 gives address 0x1008e100

@@ -1,10 +1,9 @@
 -- Request T-10: source and sink realign, A1 to A11, as one list of questions with their answers. `proofs/Realigned.antt` has the claim:
 -- these are the definitions' answers. Assumes nothing.
 use Rattle.std.specs.Prelude.{ℕ, List, [], ◌∷◌}
-use Rattle.std.proofs.Math.Option.{Option, none, some}
 use Rattle.realign.specs.Sink as ofSink
 use Rattle.realign.specs.Source as ofSource
-use Rattle.examples.specs.Asked.{Example, ◌gives◌}
+use Rattle.examples.specs.Asked.{Example, ◌gives◌, unless_refused}
 
 -- a source's call, with so many packets of room; a sink's, with so many words and strobes of room
 pub data Question : Type 0 where
@@ -17,18 +16,10 @@ pub data Answer : Type 0 where
   refused : ℕ → Answer
 
 abbrev source_answer : ofSource.Answer → Answer
-source_answer made = given made.refusal
-  where
-    given : Option ℕ → Answer
-    given none = packets made.packets
-    given (some n) = refused n
+source_answer made = unless_refused refused made.refusal (packets made.packets)
 
 abbrev sink_answer : ofSink.Answer → Answer
-sink_answer made = given made.refusal
-  where
-    given : Option ℕ → Answer
-    given none = words made.words made.strobes
-    given (some n) = refused n
+sink_answer made = unless_refused refused made.refusal (words made.words made.strobes)
 
 abbrev pub answer : Question → Answer
 answer (source address n w s room) = source_answer (ofSource.source address n w s room)

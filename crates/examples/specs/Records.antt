@@ -5,7 +5,7 @@ use Rattle.std.specs.Prelude.{true, false, List, [], ◌∷◌}
 use Rattle.monitor.specs.declared.Monitor.{Monitor}
 use Rattle.examples.specs.Parts.{seen, verdict, clean, broken, stall, no_stall, next_due, none_due, with}
 
--- a record that one test refuses, and the same mended
+-- a record that one test refuses, and the same mended: two of a kind, and no question with its answer
 pub record Example : Type 0 where
   pub refused : Monitor
   pub mended : Monitor
@@ -43,17 +43,21 @@ examples =
     -- 13: broken, no stall is kept
     ∷ with (seen false 2 0 0) (broken 4 1) (no_stall 0 0) (none_due 0) not with (seen false 2 0 0) (broken 4 1) (stall 0 0) (none_due 0)
     -- 14: broken, no counter is kept
-    ∷ with (seen true 2 1 0) (broken 100 1) (no_stall 0 0) (none_due 0) not with (seen true 2 1 0) (broken 100 1) (no_stall 0 0) (next_due 0)
+    ∷ with (seen true 2 1 0) (broken 100 1) (no_stall 0 0) (none_due 0) not
+    with (seen true 2 1 0) (broken 100 1) (no_stall 0 0) (next_due 0)
     -- 15: broken by rule 4, 2 or seq
     ∷ with (seen false 2 0 0) (broken 2 1) (no_stall 0 0) (none_due 0) not with (seen false 2 0 0) (broken 3 1) (no_stall 0 0) (none_due 0)
     -- 16: by rule 4 or 2, fewer handshakes than cycles before it
     ∷ with (seen false 3 1 0) (broken 2 2) (no_stall 0 0) (none_due 0) not with (seen false 3 2 0) (broken 2 2) (no_stall 0 0) (none_due 0)
     -- 17: by rule seq, seq is on
-    ∷ with (seen true 2 1 0) (broken 100 1) (no_stall 0 0) (none_due 0) not with (seen false 2 1 0) (broken 100 1) (no_stall 0 0) (none_due 0)
+    ∷ with (seen true 2 1 0) (broken 100 1) (no_stall 0 0) (none_due 0) not
+    with (seen false 2 1 0) (broken 100 1) (no_stall 0 0) (none_due 0)
     -- 18: by rule seq, after a handshake
-    ∷ with (seen true 2 1 0) (broken 100 1) (no_stall 0 0) (none_due 0) not with (seen true 2 0 0) (broken 100 1) (no_stall 0 0) (none_due 0)
+    ∷ with (seen true 2 1 0) (broken 100 1) (no_stall 0 0) (none_due 0) not
+    with (seen true 2 0 0) (broken 100 1) (no_stall 0 0) (none_due 0)
     -- 19: by rule seq, as many handshakes as cycles before it at most
-    ∷ with (seen true 2 1 0) (broken 100 1) (no_stall 0 0) (none_due 0) not with (seen true 2 2 0) (broken 100 1) (no_stall 0 0) (none_due 0)
+    ∷ with (seen true 2 1 0) (broken 100 1) (no_stall 0 0) (none_due 0) not
+    with (seen true 2 2 0) (broken 100 1) (no_stall 0 0) (none_due 0)
     -- Request T-09, the tests that count clears with the handshakes. 9: as many of both as cycles at most
     ∷ with (seen false 2 1 1) clean (no_stall 0 0) (none_due 0) not with (seen false 1 1 1) clean (no_stall 0 0) (none_due 0)
     -- 10: fewer of both where the last cycle stalled
@@ -61,5 +65,6 @@ examples =
     -- 16: by rule 4 or 2, fewer of both than cycles before it
     ∷ with (seen false 3 1 0) (broken 2 2) (no_stall 0 0) (none_due 0) not with (seen false 3 1 1) (broken 2 2) (no_stall 0 0) (none_due 0)
     -- 19: by rule seq, as many of both as cycles before it at most
-    ∷ with (seen true 2 1 0) (broken 100 1) (no_stall 0 0) (none_due 0) not with (seen true 2 1 1) (broken 100 1) (no_stall 0 0) (none_due 0)
+    ∷ with (seen true 2 1 0) (broken 100 1) (no_stall 0 0) (none_due 0) not
+    with (seen true 2 1 1) (broken 100 1) (no_stall 0 0) (none_due 0)
     ∷ []
