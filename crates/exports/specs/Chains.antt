@@ -14,16 +14,17 @@ use Rattle.exports.specs.declared.fifos.ChainStep.{ChainStep}
 use Rattle.exports.specs.declared.fifos.ChainRun.{ChainRun}
 use Rattle.exports.specs.declared.fifos.ChainDeliveryTime.{ChainDeliveryTime}
 use Rattle.exports.specs.Numbers.{or_zero}
-use Rattle.exports.specs.Fifos.{unmoved}
+use Rattle.exports.specs.Fifos.{shown}
 
 -- a new chain is empty, at its places; refused, it is the shortest
 pub record NewChain (places : List Place) (r : ChainNew) : Type 0 where
   pub refusal : r.refusal ≡ or_zero (first_applying (new_grounds places))
   pub gives : value r.chain ≡ well (new_line places)
 
+-- a FIFO's step has its own in `Fifos`, of the struct that C is handed there
 abbrev pub step_numbers : (given : Chain) → Result (Stepped Chain) Refusal → ChainStep
 step_numbers given answer =
-    let s : Stepped Chain = result_unwrap_or answer (unmoved given) in
+    let s : Stepped Chain = shown given answer in
     record {
       refusal = or_zero (refusal_of answer);
       ready = s.ready;

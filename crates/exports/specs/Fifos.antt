@@ -19,13 +19,14 @@ pub record NewFifo (place : Place) (r : FifoNew) : Type 0 where
   pub refusal : r.refusal ≡ or_zero (first_applying (new_grounds place))
   pub gives : value r.fifo ≡ well (new_queue place)
 
--- a refused step shows nothing, and leaves what it was given
-abbrev pub unmoved : {S : Type 0} → (given : S) → Stepped S
-unmoved given = record { ready = false; valid = false; payload = zeros; next = given }
+-- what a step shows, and what it leaves; a refused one shows nothing, and leaves what it was given
+abbrev pub shown : {S : Type 0} → (given : S) → Result (Stepped S) Refusal → Stepped S
+shown given answer = result_unwrap_or answer (record { ready = false; valid = false; payload = zeros; next = given })
 
+-- A chain's step has its own in `Chains`: what C is handed of the two steps are two types.
 abbrev pub step_numbers : (given : Fifo) → Result (Stepped Fifo) Refusal → FifoStep
 step_numbers given answer =
-    let s : Stepped Fifo = result_unwrap_or answer (unmoved given) in
+    let s : Stepped Fifo = shown given answer in
     record {
       refusal = or_zero (refusal_of answer);
       ready = s.ready;

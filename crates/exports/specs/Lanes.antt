@@ -1,12 +1,14 @@
 -- The answers of a merge and of a split in numbers. Assumes nothing.
-use Rattle.lanes.specs.Merge as ofMerge
-use Rattle.lanes.specs.Split as ofSplit
+use Rattle.lanes.specs.declared.MergeCycle.{MergeCycle}
+use Rattle.lanes.specs.declared.SplitCycle.{SplitCycle}
+use Rattle.lanes.specs.Answers.{Answer}
 use Rattle.exports.specs.declared.wide.MergeStep.{MergeStep}
 use Rattle.exports.specs.declared.wide.SplitStep.{SplitStep}
 use Rattle.exports.specs.Numbers.{or_zero}
 
-abbrev pub merge_numbers : ofMerge.Answer → MergeStep
-merge_numbers a = record { refusal = or_zero a.refusal; valid = a.valid; wide = a.wide; readies = a.readies }
+-- one for each call: a merge and a split show different things, and have different structs for C
+abbrev pub merge_numbers : Answer MergeCycle → MergeStep
+merge_numbers a = record { refusal = or_zero a.refusal; valid = a.outputs.valid; wide = a.outputs.wide; readies = a.outputs.readies }
 
-abbrev pub split_numbers : ofSplit.Answer → SplitStep
-split_numbers a = record { refusal = or_zero a.refusal; ready = a.ready; branches = a.branches }
+abbrev pub split_numbers : Answer SplitCycle → SplitStep
+split_numbers a = record { refusal = or_zero a.refusal; ready = a.outputs.ready; branches = a.outputs.branches }

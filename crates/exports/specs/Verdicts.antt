@@ -5,6 +5,7 @@ use Rattle.exports.specs.declared.checkers.StreamVerdict.{StreamVerdict}
 use Rattle.exports.specs.declared.checkers.MemVerdict.{MemVerdict}
 use Rattle.exports.specs.Numbers.{InFour, in_four}
 
+-- one for each checker, whose answers and whose structs for C are of two types: `clears` in these, `open` in those
 abbrev pub stream_numbers : ofStream.Answer → StreamVerdict
 stream_numbers a =
     let v : InFour = in_four a.judgement.verdict in

@@ -10,7 +10,7 @@ ghost use Rattle.exports.specs.Buffers.{filled_numbers};
 use crate::buffers::Filled;
 use addressgen::Settings;
 
-// The address of one iteration.
+// The address of one iteration. Not `Filled`, whose number is of another size and has another name in C.
 #[repr(C)]
 #[derive(Clone, Copy)]
 pub struct AddressAt {

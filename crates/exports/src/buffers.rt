@@ -30,7 +30,7 @@ impl From<Result<usize, Refusal>> for Filled {
     }
 }
 
-// A run's iterations, the state after them, and whether that is the end.
+// A run's iterations, the state after them, and whether that is the end: `Ran` with a refusal, flat, as C reads it.
 #[repr(C)]
 #[derive(Clone, Copy)]
 pub struct AddressRun {
@@ -56,6 +56,7 @@ pub extern "C" fn floealder_mux_static<'a>(
         return Filled::from(Err(Refusal::OutputTooShort));
     }
     let part = mux::mux_static(t0, t1, select, first, count);
+    // The empty part is the mux's refusal (`part_at`).
     if part.is_empty() {
         return Filled::from(Err(Refusal::OutOfRange));
     }

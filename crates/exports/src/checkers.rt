@@ -22,7 +22,7 @@ pub struct StreamVerdict {
     pub clears: u32,
 }
 
-// A verdict on a memory trace, and whether a read is still open.
+// A verdict on a memory trace, and whether a read is still open. No struct for both: one that is handed to C has no type parameter.
 #[repr(C)]
 #[derive(Clone, Copy)]
 pub struct MemVerdict {
@@ -34,94 +34,65 @@ pub struct MemVerdict {
     pub open: bool,
 }
 
-// A verdict on a trace that is not refused. In numbers, as the two structs for C take its fields.
+// What the two verdicts have in common, in the numbers that both take over. No field of theirs: C reads each of these by its own name.
 #[derive(Clone, Copy)]
 struct Judged {
+    refusal: u8,
     verdict: u8,
     rule: u8,
     cycle: u32,
 }
 
-// Clean, or broken with the rule's number and the cycle.
-impl<R: Into<u8>> From<Option<Breach<R>>> for Judged {
-    ghost from_gives = { λ breach judged. Found R.converts breach judged };
+// Clean, or broken with the rule's number and the cycle; or refused.
+impl<R: Into<u8>> From<Result<Option<Breach<R>>, Refusal>> for Judged {
+    ghost from_gives = { λ answer judged. Found R.converts answer judged };
 
-    fn from(breach: Option<Breach<R>>) -> Judged {
-        match breach {
-            None => Judged {
-                verdict: CLEAN,
-                rule: 0,
-                cycle: 0,
-            },
-            Some(Breach { rule, cycle }) => Judged {
-                verdict: BROKEN,
-                rule: rule.into(),
-                cycle,
-            },
+    fn from(answer: Result<Option<Breach<R>>, Refusal>) -> Judged {
+        let refusal = crate::refusal(&answer);
+        let (verdict, rule, cycle) = match answer {
+            Ok(None) => (CLEAN, 0, 0),
+            Ok(Some(Breach { rule, cycle })) => (BROKEN, rule.into(), cycle),
+            Err(_) => (NONE, 0, 0),
+        };
+        Judged {
+            refusal,
+            verdict,
+            rule,
+            cycle,
         }
     }
 }
 
+// Refused, nothing is counted.
 impl From<Result<stream_checker::Checked, Refusal>> for StreamVerdict {
     ghost from_gives = { λ answer verdict. verdict ≡ stream_numbers (writtenStream.written answer) };
 
     fn from(answer: Result<stream_checker::Checked, Refusal>) -> StreamVerdict {
-        match answer {
-            Ok(checked) => {
-                let Judged {
-                    verdict,
-                    rule,
-                    cycle,
-                } = Judged::from(checked.breach);
-                StreamVerdict {
-                    refusal: 0,
-                    verdict,
-                    rule,
-                    cycle,
-                    handshakes: checked.handshakes,
-                    clears: checked.clears,
-                }
-            }
-            Err(why) => StreamVerdict {
-                refusal: why.number(),
-                verdict: NONE,
-                rule: 0,
-                cycle: 0,
-                handshakes: 0,
-                clears: 0,
-            },
+        let judged = Judged::from(answer.map(|checked| checked.breach));
+        StreamVerdict {
+            refusal: judged.refusal,
+            verdict: judged.verdict,
+            rule: judged.rule,
+            cycle: judged.cycle,
+            handshakes: answer.map_or(0, |checked| checked.handshakes),
+            clears: answer.map_or(0, |checked| checked.clears),
         }
     }
 }
 
+// Refused, nothing is counted or open.
 impl From<Result<mem_checker::Checked, Refusal>> for MemVerdict {
     ghost from_gives = { λ answer verdict. verdict ≡ mem_numbers (writtenMem.written answer) };
 
     fn from(answer: Result<mem_checker::Checked, Refusal>) -> MemVerdict {
-        match answer {
-            Ok(checked) => {
-                let Judged {
-                    verdict,
-                    rule,
-                    cycle,
-                } = Judged::from(checked.breach);
-                MemVerdict {
-                    refusal: 0,
-                    verdict,
-                    rule,
-                    cycle,
-                    handshakes: checked.handshakes,
-                    open: checked.open,
-                }
-            }
-            Err(why) => MemVerdict {
-                refusal: why.number(),
-                verdict: NONE,
-                rule: 0,
-                cycle: 0,
-                handshakes: 0,
-                open: false,
-            },
+        let judged = Judged::from(answer.map(|checked| checked.breach));
+        MemVerdict {
+            refusal: judged.refusal,
+            verdict: judged.verdict,
+            rule: judged.rule,
+            cycle: judged.cycle,
+            handshakes: answer.map_or(0, |checked| checked.handshakes),
+            open: answer.is_ok_and(|checked| checked.open),
         }
     }
 }
@@ -145,6 +116,7 @@ pub extern "C" fn floealder_check_mem(
     MemVerdict::from(mem_checker::check_mem(control, add, data, r_data))
 }
 
+// Two calls for the two protocols, by C's names: an exported function has no type parameter.
 #[unsafe(no_mangle)]
 pub extern "C" fn floealder_check_mem_decoupled(
     control: &[u8],

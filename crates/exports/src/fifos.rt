@@ -12,6 +12,7 @@ use chain::Chain;
 use fifo::{Fifo, Place};
 use signals::{Cycle, Payload, ZEROS};
 
+// A FIFO at a place.
 #[repr(C)]
 #[derive(Clone, Copy)]
 pub struct FifoNew {
@@ -30,6 +31,7 @@ pub struct FifoStep {
     pub next: Fifo,
 }
 
+// A chain at its places. No struct for this and `FifoNew`: one that is handed to C has no type parameter.
 #[repr(C)]
 #[derive(Clone, Copy)]
 pub struct ChainNew {
@@ -37,7 +39,7 @@ pub struct ChainNew {
     pub chain: Chain,
 }
 
-// What a step shows, and the chain after it. No struct for both: one that is handed to C has no type parameter.
+// What a step shows, and the chain after it. No struct for this and `FifoStep`, for the same reason.
 #[repr(C)]
 #[derive(Clone, Copy)]
 pub struct ChainStep {
@@ -48,7 +50,7 @@ pub struct ChainStep {
     pub next: Chain,
 }
 
-// The chain after a run.
+// The chain after a run: `ChainNew` but for the name that C reads.
 #[repr(C)]
 #[derive(Clone, Copy)]
 pub struct ChainRun {
@@ -56,7 +58,7 @@ pub struct ChainRun {
     pub next: Chain,
 }
 
-// After how many cycles a payload is delivered.
+// After how many cycles a payload is delivered. A number beside a refusal, as `Filled` and `AddressAt` are, by the name that C reads.
 #[repr(C)]
 #[derive(Clone, Copy)]
 pub struct ChainDeliveryTime {
@@ -75,7 +77,9 @@ pub extern "C" fn floealder_fifo_new(place: Place) -> FifoNew
     }
 }
 
-// Both steps, this one and a chain's, match: `unwrap_or` would copy the state once more, and a chain's step would take a quarter longer.
+// Both steps, this one and a chain's, take a cycle by its four parts, as C calls them: with a struct of these it would be another call.
+//
+// Both match: `unwrap_or` would copy the state once more, and a chain's step would take a quarter longer.
 #[unsafe(no_mangle)]
 pub extern "C" fn floealder_fifo_step(
     fifo: Fifo,

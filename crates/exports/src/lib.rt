@@ -25,6 +25,6 @@ fn refusal<T>(answer: &Result<T, Refusal>) -> u8
 {
     match answer {
         Ok(_) => 0,
-        Err(why) => why.number(),
+        Err(why) => u8::from(*why),
     }
 }

@@ -6,21 +6,21 @@ ghost use Rattle.exports.specs.Lanes.{merge_numbers, split_numbers};
 
 use lanes::{MAX_LANES, MergeCycle, NO_MERGE, NO_SPLIT, Offer, SplitCycle, Wide};
 
-// What each input offers.
+// What each input offers. An exported function takes no array, so it is in a struct, and one that is handed to C has no type parameter.
 #[repr(C)]
 #[derive(Clone, Copy)]
 pub struct Inputs {
     pub each: [Offer; MAX_LANES],
 }
 
-// Which branches are ready.
+// Which branches are ready, in a struct of their own for the same reasons.
 #[repr(C)]
 #[derive(Clone, Copy)]
 pub struct Readies {
     pub each: [bool; MAX_LANES],
 }
 
-// What a merge shows its output, and the ready that it gives each input.
+// What a merge shows its output, and the ready that it gives each input: `MergeCycle` with a refusal, flat, as C reads it.
 #[repr(C)]
 #[derive(Clone, Copy)]
 pub struct MergeStep {
@@ -30,7 +30,7 @@ pub struct MergeStep {
     pub readies: [bool; MAX_LANES],
 }
 
-// The ready that a split gives its source, and what it offers each branch.
+// The ready that a split gives its source, and what it offers each branch: `SplitCycle` with a refusal, flat, as C reads it.
 #[repr(C)]
 #[derive(Clone, Copy)]
 pub struct SplitStep {
