@@ -1,10 +1,8 @@
 -- What one call of the system moves. No public promise cites it. Assumes nothing.
-use Rattle.std.specs.Prelude.{ℕ, ◌≤◌}
-use Rattle.stdio.specs.declared.Call.{Call}
-use Rattle.stdio.specs.declared.Call.TheVariants.{Moved, Ended, Failed}
+use Rattle.std.specs.Prelude.{ℕ, ◌≤◌, Option, Some, None, Result, Ok, Err}
 
--- no more than the bytes that it was given
-abbrev pub Moves : Call → (bytes : ℕ) → Type 0
-Moves (Moved n) bytes = n ≤ bytes
-Moves Ended bytes = Unit {0}
-Moves Failed bytes = Unit {0}
+-- no more than the bytes that it was given; at the end, or where it failed, it moves none
+abbrev pub Moves : {Error : Type 0} → Result (Option ℕ) Error → (bytes : ℕ) → Type 0
+Moves (Ok (Some n)) bytes = n ≤ bytes
+Moves (Ok None) bytes = Unit {0}
+Moves (Err error) bytes = Unit {0}

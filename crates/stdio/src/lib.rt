@@ -8,26 +8,26 @@ ghost use Rattle.std.specs.Prelude.{◌-◌, ◌<◌, ◌≤◌, length, MatchRe
 ghost use Rattle.stdio.specs.Moving.{Fills, Writes};
 ghost use Rattle.stdio.specs.Calls.{Moves};
 
+use std::error::Error;
 use std::io::{Cursor, ErrorKind, Read, Write};
 use std::ops::Range;
 use std::rt::Clock;
 use std::time::Duration;
 use std::{fmt, io, str, thread};
 
-// So many bytes were written, fewer than the report has; then writing failed.
+// So many bytes were written, fewer than the report has; then writing failed. An error of its own, which says what its number counts.
 #[derive(Clone, Copy, Debug, PartialEq, Eq)]
 pub struct Unwritten {
     pub written: usize,
 }
 
-// One call moved so many bytes, none where it is to be made again; it found the end; or it failed.
-// Moved(0) and no fourth outcome: the loop does the same with both.
-#[derive(Clone, Copy, Debug, PartialEq, Eq)]
-enum Call {
-    Moved(usize),
-    Ended,
-    Failed,
+impl fmt::Display for Unwritten {
+    fn fmt<W: fmt::Write>(&self, f: &mut fmt::Formatter<W>) -> fmt::Result {
+        write!(f, "writing failed after {} bytes", self.written)
+    }
 }
+
+impl Error for Unwritten {}
 
 // A proved loop has to end, and nothing says that an input does. So no more calls are made than a number that no run uses up.
 const CALLS: u64 = u64::MAX;
@@ -55,7 +55,8 @@ fn words(text: &str) -> &str {
         .map_or(text, |(words, _)| words)
 }
 
-// A stream of the program: the runtime that moves its bytes, and its name for a line on standard error.
+// A stream of the program: the runtime that moves its bytes, and its name for a line on standard error. The name is any bytes, as callers
+// may give it: text would ask more of them.
 #[derive(Drop)]
 struct Stream<'a, R> {
     rt: &'a R,
@@ -94,32 +95,31 @@ impl<R: Eprint + Clock> Stream<'_, R> {
         }
     }
 
-    // What a call on these bytes came to, by its answer.
-    fn came_to(&self, answer: io::Result<usize>, bytes: &[u8]) -> Call
+    // How many of these bytes a call moved, by its answer: none where it is to be made again, and no number where it found the end.
+    fn moved(&self, answer: io::Result<usize>, bytes: &[u8]) -> io::Result<Option<usize>>
         ensures { Moves result (length bytes.now) }
     {
         match answer {
-            Ok(0) => Call::Ended,
-            Ok(n) => Call::Moved(n.min(bytes.len())),
+            Ok(0) => Ok(None),
+            Ok(n) => Ok(Some(n.min(bytes.len()))),
             Err(error) => {
                 if self.is_repeated(error) {
-                    return Call::Moved(0);
+                    return Ok(Some(0));
                 }
-                self.fail(error);
-                Call::Failed
+                Err(error)
             }
         }
     }
 
     // Makes calls, each for the range of bytes that are left, until all are moved, one finds the end or one fails. Answers how many bytes
-    // are moved, as an error where that is for a failure.
-    fn move_all<F: FnMut(Range<usize>) -> Call>(
+    // are moved, as an error where that is for a failure: a number, since of a read no byte is unwritten.
+    fn move_all<F: FnMut(Range<usize>) -> io::Result<Option<usize>>>(
         &self,
         total: usize,
         mut call: F,
     ) -> Result<usize, usize>
         requires callable { F.IsAlwaysCallable call }
-        requires moves { (before : F) (range : _) (moved : Call) (after : F) → F.step before range moved after → Moves moved (range.end - range.start) }
+        requires moves { (before : F) (range : _) (moved : _) (after : F) → F.step before range moved after → Moves moved (range.end - range.start) }
         ensures { MatchResult result (λ done. done ≤ total) (λ done. done < total) }
     {
         let mut done = 0;
@@ -128,9 +128,12 @@ impl<R: Eprint + Clock> Stream<'_, R> {
                 return Ok(done);
             }
             match call(done..total) {
-                Call::Moved(n) => done += n,
-                Call::Ended => return Ok(done),
-                Call::Failed => return Err(done),
+                Ok(Some(n)) => done += n,
+                Ok(None) => return Ok(done),
+                Err(error) => {
+                    self.fail(error);
+                    return Err(done);
+                }
             }
         }
         if done < total {
@@ -141,26 +144,26 @@ impl<R: Eprint + Clock> Stream<'_, R> {
     }
 
     // Reads once.
-    fn read_once(&self, input: &mut impl Read, buf: &mut [u8]) -> Call
+    fn read_once(&self, input: &mut impl Read, buf: &mut [u8]) -> io::Result<Option<usize>>
         ensures { Moves result (length buf.new) }
     {
         let answer = input.read(buf);
-        self.came_to(answer, buf)
+        self.moved(answer, buf)
     }
 }
 
 impl<R: Print + Eprint + Clock> Stream<'_, R> {
     // Writes once.
-    fn write_once(&self, bytes: &[u8]) -> Call
+    fn write_once(&self, bytes: &[u8]) -> io::Result<Option<usize>>
         ensures { Moves result (length bytes.now) }
     {
         let answer = self.rt.write_some(bytes);
-        self.came_to(answer, bytes)
+        self.moved(answer, bytes)
     }
 }
 
-// Reads standard input to its end, or until the buffer is full, and counts the bytes. Where that fails, a line on standard error says
-// `what`, and why.
+// Reads standard input to its end, or until the buffer is full, and counts the bytes (`Fills`). Where that fails, a line on standard error
+// says `what`, and why, which leaves no error to answer.
 pub fn read_input(
     rt: &(impl io::Input + Eprint + Clock),
     buf: &mut [u8],
@@ -174,7 +177,7 @@ pub fn read_input(
     stream
         .move_all(buf.len(), |range| match buf.get_mut(range) {
             Some(rest) => stream.read_once(&mut input, rest),
-            None => Call::Ended,
+            None => Ok(None),
         })
         .ok()
 }
@@ -191,7 +194,7 @@ pub fn write_report(
     let written = stream
         .move_all(report.len(), |range| match report.get(range) {
             Some(rest) => stream.write_once(rest),
-            None => Call::Ended,
+            None => Ok(None),
         })
         .map_err(|written| Unwritten { written })?;
     if written < report.len() {
