@@ -7,7 +7,18 @@ use fifo::{Fifo, Place};
 use signals::{Cycle, Payload, Refusal, Stepped, ZEROS};
 use std::{fmt, io};
 
-// A place as it is printed: its kind only where it is early-stall.
+// The two kinds of place, plain and early-stall, of depth 4: two names, where each call would have a flag.
+const PLAIN: Place = Place {
+    depth: 4,
+    early_stall: false,
+};
+
+const EARLY: Place = Place {
+    depth: 4,
+    early_stall: true,
+};
+
+// A place as it is printed: its kind only where it is early-stall. run_examples prints it otherwise.
 #[derive(Drop)]
 struct Shown(Place);
 
@@ -22,12 +33,11 @@ impl fmt::Display for Shown {
 
 // Document 01's number of a refusal, or 0 where nothing is refused. exports has the same for C, and no program calls exports.
 fn number<T: Drop>(answer: Result<T, Refusal>) -> u8 {
-    answer.err().map_or(0, Refusal::number)
+    answer.err().map_or(0, u8::from)
 }
 
-// A new FIFO.
-fn new(rt: &impl Print, depth: usize, early_stall: bool) -> io::Result<Fifo> {
-    let place = Place { depth, early_stall };
+// A new FIFO, or the smallest where the place is refused.
+fn new(rt: &impl Print, place: Place) -> io::Result<Fifo> {
     let answer = Fifo::new(place);
     let made = answer.unwrap_or(Fifo::smallest());
     println!(rt;
@@ -86,14 +96,13 @@ fn offer(rt: &impl Print, f: Fifo, word: u32, sink: bool) -> io::Result<Fifo> {
 }
 
 // So many cycles that offer nothing, the sink ready.
-fn drained(rt: &impl Print, f: Fifo, cycles: usize) -> io::Result<Fifo> {
+fn drained(rt: &impl Print, mut f: Fifo, cycles: usize) -> io::Result<Fifo> {
     let nothing = Cycle {
         valid: false,
         payload: ZEROS,
         sink: true,
         clear: false,
     };
-    let mut f = f;
     for _ in 0..cycles {
         f = step(rt, f, nothing)?;
     }
@@ -102,8 +111,7 @@ fn drained(rt: &impl Print, f: Fifo, cycles: usize) -> io::Result<Fifo> {
 
 // Four are offered, of which four fit into a plain FIFO and three into an early-stall one. What comes next waits, also in the cycle in
 // which the full FIFO pops.
-fn filled(rt: &impl Print, empty: Fifo) -> io::Result<Fifo> {
-    let mut f = empty;
+fn filled(rt: &impl Print, mut f: Fifo) -> io::Result<Fifo> {
     for word in 11..=15 {
         f = offer(rt, f, word, false)?;
     }
@@ -111,8 +119,7 @@ fn filled(rt: &impl Print, empty: Fifo) -> io::Result<Fifo> {
 }
 
 // Seven payloads pass through a ring of four.
-fn wrapped(rt: &impl Print, f: Fifo) -> io::Result<Fifo> {
-    let mut f = f;
+fn wrapped(rt: &impl Print, mut f: Fifo) -> io::Result<Fifo> {
     for word in 21..=27 {
         f = offer(rt, f, word, (23..=25).contains(&word))?;
     }
@@ -132,8 +139,8 @@ fn refused(rt: &impl Print, f: Fifo) -> io::Result<()> {
     let f = step(rt, f, given)?;
     given.payload.strb = 15;
     let f = step(rt, f, given)?;
-    let mut broken = offer(rt, f, 34, false)?;
-    broken.count = 5;
+    let f = offer(rt, f, 34, false)?;
+    let broken = Fifo { count: 5, ..f };
     given.payload = Payload { data: 35, strb: 16 };
     given.clear = false;
     step(rt, broken, given)?;
@@ -142,17 +149,17 @@ fn refused(rt: &impl Print, f: Fifo) -> io::Result<()> {
 
 fn main(rt: HostRuntime) -> io::Result<()> {
     for depth in [2, 16, 18, 64, 0, 3, 17, 65, 66] {
-        new(&rt, depth, false)?;
+        new(&rt, Place { depth, ..PLAIN })?;
     }
     for depth in [4, 64, 2, 5, 66] {
-        new(&rt, depth, true)?;
+        new(&rt, Place { depth, ..EARLY })?;
     }
-    let f = new(&rt, 4, false)?;
+    let f = new(&rt, PLAIN)?;
     let f = filled(&rt, f)?;
     let f = drained(&rt, f, 4)?;
     let f = wrapped(&rt, f)?;
     refused(&rt, f)?;
-    let f = new(&rt, 4, true)?;
+    let f = new(&rt, EARLY)?;
     let f = filled(&rt, f)?;
     drained(&rt, f, 4)?;
     Ok(())

@@ -8,10 +8,12 @@
 
 mod wide; // wide.rt: merges and splits
 
+ghost use Rattle.std.specs.Prelude.{◌≡◌, false};
+
 use chain::Chain;
 use fifo::{Fifo, MAX_DEPTH, Place};
 use monitor::{MAX_SEEN, Monitor};
-use places::MAX_FIFOS;
+use places::{MAX_FIFOS, Places};
 use signals::{Cycle, MAX_CYCLES, Payload, Refusal};
 use std::{fmt, io};
 
@@ -53,8 +55,11 @@ fn print_end<T: Drop>(rt: &impl Print, answer: Result<T, Refusal>) -> io::Result
     }
 }
 
-// A place by its kind: two names, where one function would take a flag at each call.
-fn plain(depth: usize) -> Place {
+// A place by its kind: two names, where one function would take a flag at each of many calls, and the struct as many lines as it has here.
+// The clause is for `unwrap` of the chains below, whose places are legal.
+fn plain(depth: usize) -> Place
+    ensures { result ≡ record { depth = depth; early_stall = false } }
+{
     Place {
         depth,
         early_stall: false,
@@ -95,12 +100,17 @@ fn run_chain(rt: &impl Print, of: &str, places: &[Place]) -> io::Result<()> {
     print_end(rt, Chain::new(places))
 }
 
+// The same of places by value.
+fn run_chain_at(rt: &impl Print, of: &str, places: Places) -> io::Result<()> {
+    print!(rt; "FIFOs {}{of}", places.count)?;
+    print_end(rt, Chain::at(places))
+}
+
 // Steps a chain that is handed in with a number of FIFOs.
 fn run_handed_in_chain(rt: &impl Print, count: usize) -> io::Result<()> {
     print!(rt; "handed-in FIFOs {count}")?;
-    let deep = [plain(MAX_DEPTH); MAX_FIFOS];
-    let mut chain = Chain::new(&deep).unwrap_or(Chain::shortest());
-    chain.count = count;
+    let deep = Chain::new(&[plain(MAX_DEPTH); MAX_FIFOS]).unwrap();
+    let chain = Chain { count, ..deep };
     print_end(rt, chain.step(OFFER))
 }
 
@@ -119,8 +129,10 @@ fn run_memory(rt: &impl Print, control: &[u8], words: &[u32]) -> io::Result<()> 
 // Feeds a burst to a monitor that has seen so many cycles, none of them a handshake or a stall.
 fn run_burst(rt: &impl Print, seen: u32, control: &[u8], data: &[u32]) -> io::Result<()> {
     print!(rt; "seen {seen}, burst cycles {}", control.len())?;
-    let mut monitor = Monitor::fresh(false);
-    monitor.cycles = seen;
+    let monitor = Monitor {
+        cycles: seen,
+        ..Monitor::fresh(false)
+    };
     print_end(rt, monitor.fed(control, data))
 }
 
@@ -132,7 +144,7 @@ fn run_clear(rt: &impl Print) -> io::Result<()> {
     let sink: [u8; WITH_CLEAR] = [1, 0, 0, 0, 1, 1, 1];
     let mut out_control = [0u8; WITH_CLEAR];
     let mut out_data = [0u32; WITH_CLEAR];
-    let chain = Chain::new(&[plain(2); 2]).unwrap_or(Chain::shortest());
+    let chain = Chain::new(&[plain(2); 2]).unwrap();
     print!(rt; "chain cycles {WITH_CLEAR}")?;
     let ran = chain.run(&control, &data, &sink, &mut out_control, &mut out_data);
     print_end(rt, ran)?;
@@ -211,7 +223,11 @@ fn run_chains(rt: &impl Print) -> io::Result<()> {
     run_chain(rt, ", the last of depth 66", &bad)?;
     bad[15] = early_stall(2);
     run_chain(rt, ", the last early-stall of depth 2", &bad)?;
-    run_chain(rt, ", the sixteenth not looked at", &bad[..15])?;
+    let fifteen = Places {
+        count: 15,
+        listed: bad,
+    };
+    run_chain_at(rt, ", the sixteenth not looked at", fifteen)?;
     run_handed_in_chain(rt, 16)?;
     run_handed_in_chain(rt, 17)
 }

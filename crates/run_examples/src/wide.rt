@@ -93,23 +93,24 @@ fn run_split(
     )
 }
 
-fn offer(valid: bool, data: u32, strb: u8) -> Offer {
+// A valid offer.
+fn offer(data: u32, strb: u8) -> Offer {
     Offer {
-        valid,
+        valid: true,
         payload: Payload { data, strb },
     }
 }
 
 // Taken, not taken, and with an input that is not valid; four lanes; and what is refused.
 pub(crate) fn run_merges(rt: &impl Print) -> io::Result<()> {
-    let past = offer(true, 9, 255);
-    let two = [offer(true, 7, 15), offer(true, 8, 3), past, past];
+    let past = offer(9, 255);
+    let two = [offer(7, 15), offer(8, 3), past, past];
     run_merge(rt, 2, two, true)?;
     run_merge(rt, 2, two, false)?;
     let mut one = two;
     one[1].valid = false;
     run_merge(rt, 2, one, true)?;
-    let four = [two[0], two[1], offer(true, 9, 0), offer(true, 10, 8)];
+    let four = [two[0], two[1], offer(9, 0), offer(10, 8)];
     run_merge(rt, 4, four, true)?;
     run_merge(rt, 3, two, true)?;
     run_merge(rt, 4, two, true)?;

@@ -4,59 +4,45 @@
 // A file that is missing differs.
 #![tactic(auto)]
 
-ghost use Rattle.stdio.specs.Moving.{IsPrefixLen};
-
+use bench_text::MAX_REPORT;
 use std::env::FillError;
 use std::fs::File;
-use std::io::Read;
+use std::io::Cursor;
 use std::rt::{Env, Files};
 use std::{io, str};
 
-// Room for a name.
+// Room for a name. Each name and each file lies in an array: std's `args` and `read` take memory from a heap, and nothing here does.
 const MAX_NAME: usize = 256;
 
-// Room for a report, which is shorter.
+// Room for a vector's report, which is shorter.
 const REPORT_ROOM: usize = 4096;
 
 // Room for a bench text: one that fills it is longer than any of the form.
 const TEXT_ROOM: usize = 65536;
-
-// Reads until the buffer is full, the file ends or a read fails, and counts what stands at the start of the buffer.
-fn read_full(file: &mut impl Read, buf: &mut [u8]) -> usize
-    ensures { IsPrefixLen result buf.new }
-{
-    let mut done: usize = 0;
-    // No range counts this: a read goes on by as many bytes as it gives.
-    while done < buf.len() {
-        match file.read(&mut buf[done..]) {
-            Ok(0) => break,
-            Ok(n) => done += n,
-            Err(_) => break,
-        }
-    }
-    done
-}
 
 // What a file holds, as far as it fits into the room; or there is no such file.
 fn load<'a>(rt: &impl Files, path: &[u8], room: &'a mut [u8]) -> Option<&'a [u8]> {
     // Bytes that are no text name no file.
     let name = str::from_utf8(path).ok()?;
     let mut file = File::open(rt, name).ok()?;
-    let count = read_full(&mut file, room);
-    Some(&room[..count])
+    let mut held = Cursor::new(&mut *room);
+    // A read that fails ends the file, and so does the end of the room: what was read before stands.
+    let _ = io::copy(&mut file, &mut held);
+    let count = held.position() as usize;
+    room.get(..count)
 }
 
-// The report of a text.
-fn report<'a>(text: &[u8], room: &'a mut [u8]) -> &'a [u8] {
-    // A refused report is empty, which none of the vectors is, and so differs.
-    let count = bench_text::report(text, room).unwrap_or(0);
+// The report of a text. None is refused: each fits into its room (`ReportsFit`).
+#[tactic(auto, using(bench_text::proofs::NumbersFit::reports_fit_lem))]
+fn report<'a>(text: &[u8], room: &'a mut [u8; MAX_REPORT]) -> &'a [u8] {
+    let count = bench_text::report(text, room).unwrap();
     &room[..count]
 }
 
 // Whether the report of the text in one file is what another holds. A text that fills its room is longer than any of the form.
 fn files_agree(rt: &impl Files, text_path: &[u8], report_path: &[u8]) -> bool {
     let mut text_room = [0u8; TEXT_ROOM];
-    let mut made_room = [0u8; REPORT_ROOM];
+    let mut made_room = [0u8; MAX_REPORT];
     let mut expected_room = [0u8; REPORT_ROOM];
     let Some(text) = load(rt, text_path, &mut text_room) else {
         return false;
@@ -65,7 +51,8 @@ fn files_agree(rt: &impl Files, text_path: &[u8], report_path: &[u8]) -> bool {
     load(rt, report_path, &mut expected_room) == Some(made)
 }
 
-// Whether a vector agrees: its text's name is NAME.in. One that is too short or too long names no vector.
+// Whether a vector agrees: its text's name is NAME.in, and one byte shorter than its report's. One that is too short or too long names no
+// vector.
 fn vector_agrees(rt: &impl Files, text_path: &[u8]) -> bool {
     let length = text_path.len();
     if !(2..MAX_NAME).contains(&length) {
@@ -94,8 +81,8 @@ fn differs(rt: &(impl Files + Env + Print), i: usize) -> io::Result<bool> {
 // How many arguments there are, with the program's name.
 fn arg_count(rt: &impl Env) -> usize {
     (0..usize::MAX)
-        .find(|i| matches!(rt.arg(*i, &mut []), Err(FillError::NotPresent)))
-        .unwrap_or(usize::MAX)
+        .take_while(|i| !matches!(rt.arg(*i, &mut []), Err(FillError::NotPresent)))
+        .count()
 }
 
 fn main(rt: HostRuntime) -> io::Result<()> {
