@@ -183,7 +183,7 @@ impl Trace<'_> {
         ensures { let t = self.entry in
             written (Ok result) ≡ answer_below t.seq (sample_at t.control.now t.«data».now) (length t.control.now) }
     {
-        let seen = self.judge_all(Watch::start());
+        let seen = judge_cycles(Watch::start(), self.control, self.data, self.seq);
         let cycle = seen.cycles as u32;
         Checked {
             breach: seen.breach.map(|rule| Breach { rule, cycle }),
