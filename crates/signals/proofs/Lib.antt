@@ -1,3 +1,4 @@
+pub mod Any
 pub mod Bools
 pub mod Below
 pub mod Tables

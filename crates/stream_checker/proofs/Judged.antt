@@ -4,22 +4,26 @@ use Prim.Native.Nat.{ℕ, zero, suc, ◌+◌, ◌<◌, ◌≤◌}
 use native.Mathlib.Omega.{arith}
 use native.Mathlib.Nat.{add-zero}
 use native.Mathlib.Numerals.{add-one}
-use mathlib.Core.Bool.{Bool, false, cond}
+use mathlib.Core.Bool.{Bool, true, false, cond}
 use mathlib.Core.List.{List}
 use mathlib.Core.Option.{Option, none, some}
 use mathlib.Core.Path.{◌≡◌, refl, sym, ◌∙◌, ap}
 use lib.ListN.{length, get_or}
+use Rattle.std.specs.Prelude as std
+use Rattle.std.specs.Prelude.{Some}
 use Rattle.signals.specs.Judging.{Finding, clean, broken, count_below, finding_below, cycles_counted}
 use Rattle.signals.specs.Stream.{sample_at}
 use Rattle.signals.specs.Tables.{Row, first_applying}
 use Rattle.signals.specs.Written.{RuleName, judged}
 use Rattle.signals.proofs.Judging.{judges, stops, goes_on, count_le}
+use Rattle.stream_checker.specs.declared.Rule.{Rule}
 use Rattle.stream_checker.specs.declared.Seen.{Seen}
 use Rattle.stream_checker.specs.declared.watch.Watch.{Watch}
 use Rattle.stream_checker.specs.Rules.{rules}
 use Rattle.stream_checker.specs.Verdicts.{handshake_at, clear_at, Answer, answer_below}
-use Rattle.stream_checker.specs.Step.{common_length, start, rules_of, next, rules_from, Sight, sight_below, sight_of, SoFar}
-use Rattle.stream_checker.specs.Step.Sight.{cycles, handshakes, clears}
+use Rattle.stream_checker.specs.Step.{common_length, start, rules_of, next, rules_from, Sight, sight_below, finding_of, sight_of, SoFar}
+use Rattle.stream_checker.specs.Step.Sight.{finding, cycles, handshakes, clears}
+use Rattle.stream_checker.specs.Written.{rule_name}
 use Rattle.stream_checker.proofs.Follows.{rules_from_start}
 
 -- cycle i is no clear cycle, and nothing is found before it
@@ -51,6 +55,19 @@ module _ {w : Watch} {controls words : List ℕ} {seq_on : Bool} {i handshakes c
         watched = rw (add-one i, so_far.watched);
       }
 
+-- a clear cycle is counted, and not judged
+pub sight_clears :
+    {w : Watch} {controls words : List ℕ} {seq_on : Bool} {i handshakes clears : ℕ} {after : Watch} →
+    SoFar w controls words seq_on i handshakes clears after → clear_at (sample_at controls words) i ≡ true →
+    SoFar w controls words seq_on (i + 1) handshakes (clears + 1) (next seq_on after (get_or controls i 0) (get_or words i 0))
+sight_clears {w} {controls} {words} {seq_on} {i} so_far clear =
+    record {
+      nothing = goes_on (rules_from w controls words seq_on) i so_far.nothing (rw clear);
+      counted = rw (add-one i, clear, so_far.counted) (sym (add-zero _));
+      cleared = rw (add-one i, clear, so_far.cleared);
+      watched = rw (add-one i, so_far.watched);
+    }
+
 -- a cycle adds at most one to a count
 pub so_far_le :
     {w : Watch} {controls words : List ℕ} {seq_on : Bool} {i handshakes clears : ℕ} {after : Watch} →
@@ -80,13 +97,17 @@ pub sight_from_start :
 sight_from_start controls words seq_on n =
     rw (finding_same (rules_from start controls words seq_on) _ (rules_from_start seq_on controls words) n)
 
+-- a breach lies among the cycles
+pub finding_inside : (rules : ℕ → List (Row RuleName)) (n : ℕ) (r : RuleName) (c : ℕ) → finding_below rules n ≡ broken r c → c < n
+finding_inside rules n r c e = (((judges rules n).broken_exactly r c).0 e).inside
+
 -- no more cycles are counted than there are, and no more of anything than cycles
 cycles_inside : (rules : ℕ → List (Row RuleName)) (n : ℕ) → cycles_counted (finding_below rules n) n ≤ n
 cycles_inside rules n = inside (finding_below rules n) refl
   where
     inside : (f : Finding RuleName) → finding_below rules n ≡ f → cycles_counted f n ≤ n
     inside clean e = omega arith
-    inside (broken r c) e = omega (arith, (((judges rules n).broken_exactly r c).0 e).inside)
+    inside (broken r c) e = omega (arith, finding_inside rules n r c e)
 
 count_inside : (has : ℕ → Bool) (rules : ℕ → List (Row RuleName)) (n : ℕ) → count_below has (cycles_counted (finding_below rules n) n) ≤ n
 count_inside has rules n = omega (arith, count_le has (cycles_counted (finding_below rules n) n), cycles_inside rules n)
@@ -106,6 +127,12 @@ module _ (seen : Seen) (w : Watch) (controls words : List ℕ) (seq_on : Bool) (
         rw (ap handshakes sees_all) (count_inside (handshake_at (sample_at controls words)) rules n),
         rw (ap clears sees_all) (count_inside (clear_at (sample_at controls words)) rules n),
       )
+
+  -- and the cycle of a breach is one of them
+  pub cycle_inside : (rule : Rule) → seen.breach ≡ Some rule → seen.cycles < length controls
+  cycle_inside rule e =
+      finding_inside (rules_from w controls words seq_on) (length controls) (rule_name rule) seen.cycles
+      (sym (ap finding sees_all) ∙ ap (λ (b : std.Option Rule). finding_of b seen.cycles) e)
 
   -- from the start on it is the answer to the trace
   pub sees_answer : w ≡ start → answer_of (sight_of seen) ≡ answer_below seq_on (sample_at controls words) (length controls)
