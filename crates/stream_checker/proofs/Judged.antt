@@ -7,7 +7,7 @@ use native.Mathlib.Numerals.{add-one}
 use mathlib.Core.Bool.{Bool, true, false, cond}
 use mathlib.Core.List.{List}
 use mathlib.Core.Option.{Option, none, some}
-use mathlib.Core.Path.{◌≡◌, refl, sym, ◌∙◌, ap}
+use mathlib.Core.Path.{◌≡◌, refl, sym, ◌∙◌, ap, subst}
 use lib.ListN.{length, get_or}
 use Rattle.std.specs.Prelude as std
 use Rattle.std.specs.Prelude.{Some}
@@ -21,7 +21,7 @@ use Rattle.stream_checker.specs.declared.Seen.{Seen}
 use Rattle.stream_checker.specs.declared.watch.Watch.{Watch}
 use Rattle.stream_checker.specs.Rules.{rules}
 use Rattle.stream_checker.specs.Verdicts.{handshake_at, clear_at, Answer, answer_below}
-use Rattle.stream_checker.specs.Step.{common_length, start, rules_of, next, rules_from, Sight, sight_below, finding_of, sight_of, SoFar}
+use Rattle.stream_checker.specs.Step.{common_length, start, rules_of, next, rules_from, Sight, sight_below, finding_of, sight_of, SoFar, LeadsBy, Leads}
 use Rattle.stream_checker.specs.Step.Sight.{finding, cycles, handshakes, clears}
 use Rattle.stream_checker.specs.Written.{rule_name}
 use Rattle.stream_checker.proofs.Follows.{rules_from_start}
@@ -67,6 +67,13 @@ sight_clears {w} {controls} {words} {seq_on} {i} so_far clear =
       cleared = rw (add-one i, clear, so_far.cleared);
       watched = rw (add-one i, so_far.watched);
     }
+
+-- where a stretch leads, by what is found in it
+pub leads :
+    (w : Watch) (controls words : List ℕ) (seq_on : Bool) (from n : ℕ) (seen : Seen) (breach : std.Option Rule) → seen.breach ≡ breach →
+    Leads w controls words seq_on from n seen → LeadsBy breach w controls words seq_on from n seen
+leads w controls words seq_on from n seen breach e further =
+    subst (λ (found : std.Option Rule). LeadsBy found w controls words seq_on from n seen) e further
 
 -- a cycle adds at most one to a count
 pub so_far_le :
