@@ -1,13 +1,24 @@
 -- Bounds of a legal place's depth and of its capacity. Assumes nothing.
-use Prim.Native.Nat.{ℕ, ◌-◌, ◌≤◌}
+use Prim.Native.Nat.{ℕ, ◌-◌, ◌≤◌, ◌/◌, ◌*◌, ◌%◌}
 use native.Mathlib.Omega.{arith}
 use mathlib.Core.Bool.{Bool, true, false, cond}
-use mathlib.Core.Path.{◌≡◌}
-use borrow.Author.Tests.{leb-true}
-use lib.Dec.{leb}
-use Rattle.signals.proofs.Bools.{both}
+use mathlib.Core.Logic.{⊎_elim}
+use mathlib.Core.Path.{◌≡◌, sym, ◌∙◌}
+use borrow.Author.Tests.{leb-true, eq-eqb, ne_eqb, eqb-true, eqb-false}
+use lib.Dec.{leb, eqb}
+use Rattle.signals.proofs.Bools.{either, both}
 use Rattle.fifo.specs.declared.Place.{Place}
 use Rattle.fifo.specs.Queue.{capacity, min_depth, max_depth, legal_place}
+
+-- a number that halving and doubling gives back is even
+pub even_by_half : (n : ℕ) → eqb (n / 2 * 2) n ≡ eqb (n % 2) 0
+even_by_half n = ⊎_elim even odd (either (eqb (n % 2) 0))
+  where
+    even : eqb (n % 2) 0 ≡ true → eqb (n / 2 * 2) n ≡ eqb (n % 2) 0
+    even t = let z : n % 2 ≡ 0 = eqb-true (n % 2) 0 t in eq-eqb (n / 2 * 2) n (omega arith) ∙ sym t
+
+    odd : eqb (n % 2) 0 ≡ false → eqb (n / 2 * 2) n ≡ eqb (n % 2) 0
+    odd f = ne_eqb (n / 2 * 2) n (λ e. eqb-false (n % 2) 0 f (omega arith)) ∙ sym f
 
 -- the least depth of its kind, and the deepest
 depth_min : (place : Place) → legal_place place ≡ true → min_depth place ≤ place.depth

@@ -50,10 +50,13 @@ every_place_lem f e =
       held = λ i below. ring_at f.slots f.place.depth f.oldest f.count i form.oldest below;
     }
 
--- a place up to the end has its slot in the ring
+-- a place up to the end has its slot in the ring, and so within the slots
 pub place_below : (f : Fifo) (count : ℕ) → in_range f ≡ true → count ≤ f.count → wrapped f.place.depth (f.oldest + count) < f.place.depth
 place_below f count e most =
     let form = form_of f e in wrapped_below f.place.depth f.oldest count (sum_once f form count (omega (arith, form.count)))
+
+pub place_within : (f : Fifo) (count : ℕ) → in_range f ≡ true → count ≤ f.count → wrapped f.place.depth (f.oldest + count) < max_depth
+place_within f count e most = omega (arith, place_below f count e most, depth_within f e)
 
 in_range_lem : (f : Fifo) → Form f → in_range f ≡ true
 in_range_lem f form = rw (form.place, lt-ltb _ _ form.oldest, le-leb _ _ form.count)

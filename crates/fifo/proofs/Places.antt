@@ -21,6 +21,7 @@ remainder_cases depth n once =
     (either (ltb n depth))
 
 pub place_is_remainder_lem : PlaceIsRemainder
+unfolding wrapped
 place_is_remainder_lem depth position count once =
     let place = position + count in
     ⊎_elim

@@ -16,7 +16,7 @@ use Rattle.signals.specs.Payloads.{legal_strb}
 use Rattle.signals.proofs.Bools.{either}
 use Rattle.fifo.specs.declared.Fifo.{Fifo}
 use Rattle.fifo.specs.declared.Pointers.{Pointers}
-use Rattle.fifo.specs.Queue.{Queue, Value, well, ready_of, Answer, refused, cycle_of, step_grounds, step_by, step_of, when, is_any, oldest, shown, shown_as, ready, next, emptied, legal_strbs}
+use Rattle.fifo.specs.Queue.{Queue, Value, well, ready_of, Answer, refused, cycled, cycle_of, step_grounds, step_by, step_of, when, is_any, oldest, shown, shown_as, ready, next, emptied, legal_strbs}
 use Rattle.fifo.specs.Ring.{trusted, value, strobes_checked}
 use Rattle.fifo.specs.Promises.{Steps, answered, trusted_in, StaysPast, StepsIn, answered_in}
 use Rattle.fifo.proofs.Strobes.{legal_one, legal_when, shown_payload_legal, next_legal, empty_legal, checked_legal, checked_well, trusted_of_value}
@@ -43,6 +43,12 @@ pub step_refused : (v : Value) (offer sink clear : Bool) (p : Payload) (number :
     → step_of v offer p sink clear ≡ refused number v
 unfolding step_of
 step_refused v offer sink clear p number e = ap (λ (o : Option ℕ). step_by o v offer p sink clear) e
+
+-- an answer whose parts are the cycle's is the cycle's
+pub parts_cycle : (q : Queue) (offer : List Payload) (sink is-ready valid : Bool) (p : Payload) (v : Value)
+    → is-ready ≡ ready q → valid ≡ is_any (shown q) → p ≡ shown_as (shown q) → v ≡ well (next q offer sink)
+    → record { refusal = none; ready = is-ready; valid = valid; payload = p; next = v } ≡ cycled q offer sink
+parts_cycle q offer sink is-ready valid p v by-ready by_valid by_payload by_next = rw (by-ready, by_valid, by_payload, by_next)
 
 -- the code's refusal is the rule's where its number is the one that is given
 pub refusal_steps : (value_of : Fifo → Value) (f : Fifo) (offer sink clear : Bool) (p : Payload) (why : Refusal)

@@ -12,7 +12,7 @@ abbrev pub is_inside : (depth place : ℕ) → Bool
 is_inside depth place = ltb place depth
 
 -- the slot at a place that has passed the end of the ring at most once, found by a comparison
-abbrev pub wrapped : (depth place : ℕ) → ℕ
+unfoldable pub wrapped : (depth place : ℕ) → ℕ
 wrapped depth place = cond (is_inside depth place) place (place - depth)
 
 -- Request T-02: of a sum below twice the depth it is the slot that a remainder gives. The code's `wrap`, and `ring`, are this place.

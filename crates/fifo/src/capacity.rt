@@ -24,6 +24,6 @@ impl Place {
         ensures { result ≡ legal_place self }
     {
         let depth = self.depth;
-        (self.min_depth() <= depth) & ((depth <= MAX_DEPTH) & (depth % 2 == 0))
+        (self.min_depth() <= depth) & ((depth <= MAX_DEPTH) & (depth / 2 * 2 == depth))
     }
 }

@@ -19,6 +19,7 @@ pub(crate) struct Turn {
 }
 
 // The slot at a place that has passed the end of the ring at most once: the one that a remainder would give, found by a comparison.
+#[tactic(auto, unfolding(crate::specs::Ring::wrapped))]
 pub(crate) fn wrap(depth: usize, place: usize) -> usize
     ensures { result ≡ wrapped depth place }
 {
