@@ -75,9 +75,12 @@ pub record Formed (chain : Chain) : Type 0 where
   pub legal : legal_count chain.count ≡ true
   pub row : line_of (used chain) ≡ well (queues (value chain))
 
+pub legal_count_lem : (chain : Chain) → is_well (value chain) ≡ true → legal_count chain.count ≡ true
+legal_count_lem chain e = ⊎_elim (λ l. l) (λ n. absurd (false≢true (sym (ap is_well (value_uncounted chain n)) ∙ e))) (either (legal_count chain.count))
+
 pub formed : (chain : Chain) → is_well (value chain) ≡ true → Formed chain
 formed chain e =
-    let l = ⊎_elim (λ l. l) (λ n. absurd (false≢true (sym (ap is_well (value_uncounted chain n)) ∙ e))) (either (legal_count chain.count)) in
+    let l = legal_count_lem chain e in
     let b = both (leb 1 chain.count) (leb chain.count max_fifos) l in
     record {
       some = leb-true 1 chain.count b.0;

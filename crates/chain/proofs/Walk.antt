@@ -162,3 +162,8 @@ walking_end clear row source sink vs i offers p some all w =
     nothing : (clear : Bool) → ◌≡◌ {A = List Queue} (cond clear [] []) []
     nothing true = refl
     nothing false = refl
+
+-- so a cycle with no clear ends with the cycle's row, and with the valid and the payload that the last FIFO shows
+pub cycling_end : (row : List Queue) (source : List Payload) (sink : Bool) (vs : List queue.Value) (i : ℕ) (offers : Bool) (p : Payload)
+    → 0 < i → length vs ≤ i → Walking false row source sink vs i offers p → Ended false row source sink vs offers p
+cycling_end row source sink vs i offers p some all w = walking_end false row source sink vs i offers p some all w

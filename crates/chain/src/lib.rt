@@ -36,6 +36,21 @@ impl Chain {
     pub fn new(places: &[Place]) -> Result<Chain, Refusal>
         ensures { Made places.now result }
     {
+        Chain::at(Places::read(places))
+    }
+
+    // The same by value, for a caller who has no list to lend. Places past the count are not looked at, and a count above sixteen is
+    // refused as a count of 0 is.
+    pub fn at(places: Places) -> Result<Chain, Refusal>
+        ensures { Made (places_of places) result }
+    {
+        Chain::at_each(places.listed.get(..places.count).unwrap_or(&[]))
+    }
+
+    // An empty FIFO at each place that is listed.
+    fn at_each(places: &[Place]) -> Result<Chain, Refusal>
+        ensures { Made places.now result }
+    {
         if !is_legal_count(places.len()) {
             return Err(Refusal::BadCount);
         }
@@ -50,14 +65,6 @@ impl Chain {
             count: places.len(),
             fifos,
         })
-    }
-
-    // The same by value, for a caller who has no list to lend. Places past the count are not looked at, and a count above sixteen is
-    // refused as a count of 0 is. It is promised for Rattle callers (docs/PROMISES.md), so it stays beside `new`.
-    pub fn at(places: Places) -> Result<Chain, Refusal>
-        ensures { Made (places_of places) result }
-    {
-        Chain::new(places.listed.get(..places.count).unwrap_or(&[]))
     }
 
     // What a caller has where a new chain was refused: one empty plain FIFO of depth 2.

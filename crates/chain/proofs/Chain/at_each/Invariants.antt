@@ -7,7 +7,7 @@ use Rattle.signals.specs.Refusals.{any_of}
 use Rattle.fifo.specs.Queue.{well, empty, legal_place}
 use Rattle.fifo.specs.Promises as fifo
 use Rattle.places.specs.Listing.{max_fifos}
-use Rattle.chain.proofs.Chain.new.Given as goal
+use Rattle.chain.proofs.Chain.at_each.Given as goal
 
 abbrev pub invariant-loop-i : goal.invariant-loop-i
 invariant-loop-i l = record {

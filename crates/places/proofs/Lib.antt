@@ -1,0 +1,2 @@
+-- What holds while places are read.
+pub mod Reading
