@@ -14,7 +14,7 @@ use Rattle.signals.proofs.Bools.{either, clash}
 use Rattle.mux.specs.Mux.{Trace, selected, out_of_range, grounds, muxed}
 
 -- a part that is not out of range has a cycle and ends within its trace
-in_range_lem : (cycles select first count : ℕ) → out_of_range cycles select first count ≡ false → (0 < count) × (first + count ≤ cycles)
+pub in_range_lem : (cycles select first count : ℕ) → out_of_range cycles select first count ≡ false → (0 < count) × (first + count ≤ cycles)
 in_range_lem cycles select first count e = grind (arith, nat_tests)
 
 module _ (t0 t1 : Trace) (select first count : ℕ) where
