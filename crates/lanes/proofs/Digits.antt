@@ -1,7 +1,7 @@
 -- Strobes side by side are digits to the base 16: lane i's stay below 16 to the power i + 1, and are found there again.
 -- By induction over the number of lanes, the last apart. Assumes nothing.
 use Prim.Native.Nat.{ℕ, zero, suc, ◌+◌, ◌-◌, ◌*◌, ◌/◌, ◌%◌, ◌^◌, ◌<◌, ◌≤◌}
-use native.Mathlib.Nat.{zero-lt-suc, one-le-pow, pow-suc, pow-le-pow_right, mul_assoc, mul_comm, mod-eq_of_lt, mul-add-div_right, mul-add-mod_self_right, mod-one}
+use native.Mathlib.Nat.{zero-lt-suc, one-le-pow, pow-suc, lt_of_lt_of_le, pow-le-pow_right, mul_assoc, mul_comm, mod-eq_of_lt, mul-add-div_right, mul-add-mod_self_right, mod-one}
 use native.Mathlib.Omega.{arith}
 use mathlib.Core.Bool.{true}
 use mathlib.Core.List.{List}
@@ -65,10 +65,15 @@ module _ (payload : ℕ → Payload) where
       ∙ mod-eq_of_lt (legal n (omega arith))))
       (either (ltb i n))
 
--- the strobes of inputs that are legal stay below 16
+-- the strobes of inputs that are legal stay below 16, and those of the lanes side by side below 16 to the power 4
 pub legal_below : (inputs : List Offer) (n : ℕ) → legal_strobes n inputs ≡ true → (i : ℕ) → i < n → (payload_at inputs i).strb < 16
 legal_below inputs n e i h =
     let legal = leb-true (payload_at inputs i).strb max_strb (each_below (λ j. legal_strb (payload_at inputs j)) n e i h) in omega arith
+
+pub strobes_small : (inputs : List Offer) (n i : ℕ) → n ≤ max_lanes → legal_strobes n inputs ≡ true → i ≤ n →
+    strobes_below (payload_at inputs) i < 65536
+strobes_small inputs n i few e h =
+    lt_of_lt_of_le (strobes_fit (payload_at inputs) i (λ j g. legal_below inputs n e j (omega arith))) (pow_few i (omega arith))
 
 -- strobes that agree on the lanes
 pub strobes_alike : (f g : ℕ → Payload) (n : ℕ) → ((i : ℕ) → i < n → f i ≡ g i) → strobes_below f n ≡ strobes_below g n

@@ -15,6 +15,7 @@ use Rattle.stream_checker.specs.Rules.{stalled, breaks_held, breaks_stable}
 use Rattle.lanes.specs.declared.MergeCycle.{MergeCycle}
 use Rattle.lanes.specs.declared.Offer.{Offer}
 use Rattle.lanes.specs.declared.Wide.{Wide}
+use Rattle.lanes.specs.Answers.{Answer}
 use Rattle.lanes.specs.Lanes.{max_lanes, legal_lanes}
 use Rattle.lanes.specs.Offers.{offer_at}
 use Rattle.lanes.specs.Wide.{lane, together, wide_zeros}
@@ -33,9 +34,9 @@ shows : (lanes : ℕ) (inputs : List Offer) (ready : Bool) → (ofMerge.answer l
     (legal_lanes lanes ≡ true) × (legal_strobes lanes inputs ≡ true) × (all_valid lanes inputs ≡ true)
 shows lanes inputs ready =
     merge_by lanes inputs ready
-    (λ a. a.valid ≡ true → (legal_lanes lanes ≡ true) × (legal_strobes lanes inputs ≡ true) × (all_valid lanes inputs ≡ true))
+    (λ a. a.outputs.valid ≡ true → (legal_lanes lanes ≡ true) × (legal_strobes lanes inputs ≡ true) × (all_valid lanes inputs ≡ true))
     (λ l s e. (l, s, e))
-    (λ e. absurd (false≢true e))
+    (λ number e. absurd (false≢true e))
 
 -- what the rules ask of a stream that stalls
 stays_valid : (s now : Bool) → s ≡ true → s && not now ≡ false → now ≡ true
@@ -72,7 +73,7 @@ module _ (lanes : ℕ) (inputs next : List Offer) (ready ready-next : Bool) wher
     -- each input stalls
     unready : (i : ℕ) → i < lanes → ready_at first.readies i ≡ false
     unready i h =
-        ap (λ (a : MergeCycle). ready_at a.readies i) (merge_accepts lanes inputs ready w.0 w.1)
+        ap (λ (a : Answer MergeCycle). ready_at a.outputs.readies i) (merge_accepts lanes inputs ready w.0 w.1)
         ∙ lane_entry false (λ j. ready && all_valid lanes inputs) lanes i few h
         ∙ ap (λ (b : Bool). b && all_valid lanes inputs) left
 
@@ -97,7 +98,7 @@ module _ (lanes : ℕ) (inputs next : List Offer) (ready ready-next : Bool) wher
     all_next = every_below_lem (λ i. (offer_at next i).valid) lanes valid_next
 
     second_cycle : second ≡ ofMerge.cycle lanes next ready-next
-    second_cycle = merge_accepts lanes next ready-next w.0 legal_next
+    second_cycle = ap (λ (a : Answer MergeCycle). a.outputs) (merge_accepts lanes next ready-next w.0 legal_next)
 
     still : (second.valid ≡ true) × (second.wide ≡ first.wide)
     still = (
@@ -106,7 +107,7 @@ module _ (lanes : ℕ) (inputs next : List Offer) (ready ready-next : Bool) wher
           ∙ ap (λ (b : Bool). cond b (together lanes (payload_at next)) wide_zeros) all_next
           ∙ together_alike (payload_at next) (payload_at inputs) lanes few same_next
           ∙ sym
-          (ap (λ (a : MergeCycle). a.wide) (merge_accepts lanes inputs ready w.0 w.1)
+          (ap (λ (a : Answer MergeCycle). a.outputs.wide) (merge_accepts lanes inputs ready w.0 w.1)
           ∙ ap (λ (b : Bool). cond b (together lanes (payload_at inputs)) wide_zeros) w.2),
     )
 

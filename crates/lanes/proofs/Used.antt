@@ -1,5 +1,5 @@
 -- The inputs and the readies used are the first ones, and the definitions look at no other. Assumes nothing.
-use Prim.Native.Nat.{ℕ, zero, suc, ◌^◌, ◌<◌, ◌≤◌}
+use Prim.Native.Nat.{ℕ, zero, suc, ◌<◌, ◌≤◌}
 use native.Mathlib.Numerals.{add-one}
 use native.Mathlib.Omega.{arith}
 use mathlib.Core.Bool.{Bool, true, ◌&&◌}
@@ -19,7 +19,7 @@ use Rattle.lanes.specs.Lanes.{max_lanes}
 use Rattle.lanes.specs.Merge.{payload_at, legal_strobes, all_valid}
 use Rattle.lanes.specs.Offers.{no_offer}
 use Rattle.lanes.specs.Wide.{strobes_below, together}
-use Rattle.lanes.proofs.Digits.{pow_few, strobes_fit, strobes_alike, legal_below}
+use Rattle.lanes.proofs.Digits.{strobes_alike, strobes_small}
 use Rattle.lanes.proofs.PerLane.{lanes_alike}
 
 -- a test of each of the first entries, as a chain of iterators makes it, is that of each index
@@ -59,11 +59,6 @@ pub ruleset inputs_used = (used_legal, used_valid, used_together)
 pub strobes_few : (used : List Offer) (i : ℕ) → i ≤ length used → length used ≤ max_lanes →
     list_all (λ input. legal_strb input.payload) used ≡ true → strobes_below (payload_at used) i < 65536
 strobes_few used i h few legal =
-    let each : legal_strobes (length used) used ≡ true =
-    sym (used_legal used (length used) (omega arith)) ∙ ap (list_all (λ input. legal_strb input.payload)) (take-length used) ∙ legal
-    in
-    let fit : strobes_below (payload_at used) i < 16 ^ i =
-    strobes_fit (payload_at used) i
-    (λ j g. legal_below used (length used) each j (omega arith))
-    in
-    let most : 16 ^ i ≤ 65536 = pow_few i (omega arith) in omega (arith, fit, most)
+    strobes_small used (length used) i few
+    (sym (used_legal used (length used) (omega arith)) ∙ ap (list_all (λ input. legal_strb input.payload)) (take-length used) ∙ legal)
+    h

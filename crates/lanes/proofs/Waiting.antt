@@ -20,6 +20,7 @@ use Rattle.fifo.proofs.Stepping.{step_legal}
 use Rattle.lanes.specs.declared.Offer.{Offer}
 use Rattle.lanes.specs.declared.SplitCycle.{SplitCycle}
 use Rattle.lanes.specs.declared.Wide.{Wide}
+use Rattle.lanes.specs.Answers.{Answer}
 use Rattle.lanes.specs.Lanes.{legal_lanes}
 use Rattle.lanes.specs.Offers.{no_offer, offer_when, offer_at}
 use Rattle.lanes.specs.Wide.{lane}
@@ -102,14 +103,14 @@ module _ (lanes : ℕ) (qs : List Queue) (wide : Wide) (l : legal_lanes lanes �
   taken = record { source_ready = source; wired = wire; joins = join; shows_next = shows }
     where
       source : (valid : Bool) → (ofSplit.answer lanes valid wide readies).outputs.ready ≡ true
-      source valid = ap (λ (a : SplitCycle). a.ready) (split_accepts lanes valid wide readies l s) ∙ all
+      source valid = ap (λ (a : Answer SplitCycle). a.outputs.ready) (split_accepts lanes valid wide readies l s) ∙ all
 
       -- branch i's offer
       at_lane : (valid : Bool) (i : ℕ) → i < lanes →
           offer_at (ofSplit.answer lanes valid wide readies).outputs.branches i
           ≡ offer_when (valid && all_ready lanes readies) (lane wide i)
       at_lane valid i h =
-          ap (λ (a : SplitCycle). offer_at a.branches i) (split_accepts lanes valid wide readies l s)
+          ap (λ (a : Answer SplitCycle). offer_at a.outputs.branches i) (split_accepts lanes valid wide readies l s)
           ∙ lane_entry no_offer (λ j. offer_when (valid && all_ready lanes readies) (lane wide j)) lanes i (lanes_few lanes l) h
 
       wire : (valid : Bool) (i : ℕ) → i < lanes → (sink : Bool) → (fifo_in lanes qs valid wide i sink).ready ≡ ready_at readies i

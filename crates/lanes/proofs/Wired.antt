@@ -20,6 +20,7 @@ use Rattle.lanes.specs.declared.MergeCycle.{MergeCycle}
 use Rattle.lanes.specs.declared.Offer.{Offer}
 use Rattle.lanes.specs.declared.SplitCycle.{SplitCycle}
 use Rattle.lanes.specs.declared.Wide.{Wide}
+use Rattle.lanes.specs.Answers.{Answer}
 use Rattle.lanes.specs.Lanes.{max_lanes, legal_lanes, per_lane}
 use Rattle.lanes.specs.Offers.{no_offer, offer_when, offer_at}
 use Rattle.lanes.specs.Wide.{lane, together, wide_zeros}
@@ -84,8 +85,9 @@ agrees false v r iv br p q valid ready same = sym (unready (record { valid = iv;
 no_strobe_past : (lanes : ℕ) (inputs : List Offer) (ready : Bool) →
     strobe_past lanes (ofMerge.answer lanes inputs ready).outputs.wide ≡ false
 no_strobe_past lanes inputs ready =
-    merge_by lanes inputs ready (λ a. strobe_past lanes a.wide ≡ false)
-    (λ l s. ⊎_elim (shows s) hides (either (all_valid lanes inputs))) none
+    merge_by lanes inputs ready (λ a. strobe_past lanes a.outputs.wide ≡ false)
+    (λ l s. ⊎_elim (shows s) hides (either (all_valid lanes inputs)))
+    (λ number. none)
   where
     none : strobe_past lanes wide_zeros ≡ false
     none = lt-leb (16 ^ lanes) 0 (pow_pos lanes)
@@ -124,7 +126,8 @@ cycle_same lanes inputs readies l s i =
 pub same_cycle_lem : SameCycle
 same_cycle_lem lanes i c =
     subst Same (sym c.merges)
-    (merge_by lanes c.inputs c.split.ready (λ m. c.split ≡ split_of m → Same m) accepted refused (c.splits ∙ ap split_of c.merges))
+    (merge_by lanes c.inputs c.split.ready (λ a. c.split ≡ split_of a.outputs → Same a.outputs)
+    accepted (λ number. refused) (c.splits ∙ ap split_of c.merges))
   where
     split_of : MergeCycle → SplitCycle
     split_of m = (ofSplit.answer lanes m.valid m.wide c.readies).outputs
@@ -145,9 +148,9 @@ same_cycle_lem lanes i c =
     accepted l s splits =
         let m = ofMerge.cycle lanes c.inputs c.split.ready in
         let past : strobe_past lanes m.wide ≡ false =
-        ap (λ (a : MergeCycle). strobe_past lanes a.wide) (sym (merge_accepts lanes c.inputs c.split.ready l s))
+        ap (λ (a : Answer MergeCycle). strobe_past lanes a.outputs.wide) (sym (merge_accepts lanes c.inputs c.split.ready l s))
         ∙ no_strobe_past lanes c.inputs c.split.ready in
-        let cycles : c.split ≡ ofSplit.cycle lanes m.valid m.wide c.readies = splits ∙ split_accepts lanes m.valid m.wide c.readies l past in
+        let cycles : c.split ≡ ofSplit.cycle lanes m.valid m.wide c.readies = splits ∙ ap (λ (a : Answer SplitCycle). a.outputs) (split_accepts lanes m.valid m.wide c.readies l past) in
         ap (λ (a : SplitCycle). handed (offer_at a.branches i) (ready_at c.readies i)) cycles
         ∙ cycle_same lanes c.inputs c.readies l s i
         ∙ sym
