@@ -1,4 +1,5 @@
 pub mod Stepping
+pub mod Products
 pub mod Running
 pub mod Resuming
 pub mod Counters

@@ -1,9 +1,9 @@
 -- Laws of the iterations: ov counts them, and so many iterations and then more are all of them together.
 -- Each is by induction over the iterations. Assumes nothing.
-use Rattle.std.proofs.Common.{◌≡◌, ℕ, zero, suc, ◌+◌, ◌++◌, refl, append_assoc, append-nil, add-zero, add-suc, arith}
+use Rattle.std.proofs.Common.{◌≡◌, ℕ, zero, suc, ◌+◌, ◌++◌, refl, append_assoc, append-nil, add-zero, add-suc, add-one, arith}
 use Rattle.addressgen.specs.declared.Settings.{Settings}
 use Rattle.addressgen.specs.declared.State.{State}
-use Rattle.addressgen.specs.Stepping.{Dimension, dimension0, dimension1, dimension2, along, advanced, after, addresses}
+use Rattle.addressgen.specs.Stepping.{Dimension, dimension0, dimension1, dimension2, along, advanced, next, after, addresses}
 
 -- along whichever dimension, ov gains 1
 advanced_rises : (s : Settings) (t : State) (d : Dimension) → (advanced s t d).ov ≡ t.ov + 1
@@ -16,6 +16,10 @@ module _ (s : Settings) (t : State) where
   pub after_rises : (n : ℕ) → (after s t n).ov ≡ t.ov + n
   after_rises zero = omega arith
   after_rises (suc n) = omega (arith, advanced_rises s (after s t n) (along s (after s t n)), after_rises n)
+
+  -- one iteration more
+  pub steps_on : (n : ℕ) (here there : State) → here ≡ after s t n → there ≡ next s here → there ≡ after s t (n + 1)
+  steps_on n here there e f = rw (add-one n, f, e)
 
   -- n iterations and then m
   pub after_adds : (n m : ℕ) → after s t (n + m) ≡ after s (after s t n) m
