@@ -1,6 +1,7 @@
 pub mod Bytes
 pub mod Joining
 pub mod Padded
+pub mod Leading
 pub mod Taken
 pub mod Answers
 pub mod Undone

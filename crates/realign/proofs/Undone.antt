@@ -162,6 +162,17 @@ sink_accepts :
 sink_accepts m packets wordRoom strobeRoom limit words-fit strobes_fit =
     keeps_none (ofSink.grounds m packets wordRoom strobeRoom) (grind (arith, common_steps))
 
+-- an answer's refusal is the first ground that applies, so that one without a refusal comes of no ground
+source_refusal :
+    (address n : ℕ) (words strobes : List ℕ) (room : ℕ) →
+    (source address n words strobes room).refusal ≡ first_applying (ofSource.grounds (address % 4) n words strobes room)
+source_refusal _ _ _ _ _ = refl
+
+sink_refusal :
+    (address : ℕ) (packets : List ℕ) (wordRoom strobeRoom : ℕ) →
+    (sink address packets wordRoom strobeRoom).refusal ≡ first_applying (ofSink.grounds (address % 4) packets wordRoom strobeRoom)
+sink_refusal _ _ _ _ = refl
+
 pub strobes_name_packets_lem : StrobesNamePackets
 strobes_name_packets_lem m packets k few h =
     named_exactly m (length packets) (strobes_of m packets) few (plan_is_plan m (length packets)) k h
