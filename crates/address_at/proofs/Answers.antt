@@ -1,12 +1,13 @@
 -- What the two calls promise, in their two cases: accepted, where no ground applies, and refused, by the number that is given.
 -- Assumes nothing.
-use Rattle.std.proofs.Common.{◌≡◌, ℕ, ◌≤◌, false, ltb, List, [], ◌∷◌, ◌++◌, length, take, drop, Ok, Err, sym, ◌∙◌, ap, le-ltb}
+use Rattle.std.proofs.Common.{◌≡◌, ℕ, ◌≤◌, false, ltb, List, [], ◌∷◌, ◌++◌, length, take, drop, Ok, Err, sym, ◌∙◌, ap, le-ltb, ltb-false}
 use Rattle.std.proofs.lemmas.List.{length-take-le}
 use mathlib.Core.Option.{none, some}
-use Rattle.signals.specs.Tables.{Row, ◌⇐◌, first_applying}
+use Rattle.signals.specs.Tables.{Row, ◌⇐◌, first_applying, NoneIn}
 use Rattle.signals.specs.Refusals.{number_of}
 use Rattle.signals.specs.Sequences.{entries_below}
 use Rattle.signals.specs.declared.Refusal.{Refusal}
+use Rattle.signals.proofs.Bools.{neither}
 use Rattle.signals.proofs.Tables.{none_keeps}
 use Rattle.addressgen.specs.declared.Settings.{Settings}
 use Rattle.addressgen.specs.Overwriting.{overwrites_itself}
@@ -22,17 +23,32 @@ module _ (s : Settings) (i : ℕ) where
   pub no_bad_mask : first_applying (ofAddress.grounds s i) ≡ none → bad_mask s ≡ false
   no_bad_mask e = (none_keeps (ofAddress.grounds s i) e).0
 
+  pub addressed :
+      first_applying (ofAddress.grounds s i) ≡ none → (address : ℕ) → address ≡ address_of s i →
+      answer_of (Ok address) ≡ answer_by address_of s i
+  addressed e address f = rw (e, f)
+
   pub not_addressed :
       (why : Refusal) → first_applying (ofAddress.grounds s i) ≡ some (number_of why) →
       answer_of (Err why) ≡ answer_by address_of s i
   not_addressed why e = rw e
 
 module _ (first second : Settings) (room : ℕ) (e : first_applying (ofOverlap.grounds first second room) ≡ none) where
+  passed : NoneIn (ofOverlap.grounds first second room)
+  passed = none_keeps (ofOverlap.grounds first second room) e
+
+  pub second_fits : second.total ≤ max_iterations
+  second_fits = ltb-false max_iterations second.total (neither (ltb max_iterations first.total) (ltb max_iterations second.total) passed.0).1
+
   pub first_mask : bad_mask first ≡ false
-  first_mask = (none_keeps (ofOverlap.grounds first second room) e).1.0
+  first_mask = passed.1.0
 
   pub second_mask : bad_mask second ≡ false
-  second_mask = (none_keeps (ofOverlap.grounds first second room) e).1.1.1.0
+  second_mask = passed.1.1.1.0
+
+  -- there is room for all of the first's iterations, and not only for those that are listed
+  pub has_room : first.total ≤ room
+  has_room = ltb-false room first.total passed.1.1.1.1.1.0
 
 -- settings that are legal give neither 10 nor 11
 pub passes :
