@@ -17,6 +17,10 @@ digit_small base b d e = grind (arith, nat_tests)
 pub digit_below : (base b d : ℕ) → 10 ≤ base → digit_of base b ≡ some d → d < base
 digit_below base b d h e = ⊎_elim (λ k. omega arith) (λ k. omega arith) (digit_small base b d e)
 
+-- so a hex digit is below sixteen
+pub hex_digit_lem : (b d : ℕ) → digit_of 16 b ≡ some d → d < 16
+hex_digit_lem b d e = digit_below 16 b d (omega arith) e
+
 -- one digit takes one place
 pub room_step : (base n left d : ℕ) → d < base → (n * base + d + 1) * base ^ left ≤ (n + 1) * base ^ suc left
 room_step base n left d h =

@@ -1,6 +1,6 @@
 -- The front of a text, read by the library: given bytes, digits that are cut off, and one turn of each loop. What is left, read on from
 -- here, answers for the whole. Assumes nothing.
-use Rattle.std.proofs.Common.{◌≡◌, set, append_assoc, map, ◌⊎◌, inl, inr, ⊎_elim, Bool, true, false, cond, leb, refl, ap, ◌∙◌, ℕ, zero, suc, ◌+◌, ◌*◌, ◌-◌, ◌<◌, ◌≤◌, ◌≢◌, List, [], ◌∷◌, ◌++◌, length, take, drop, get_or, arith, add-one, drop-cons}
+use Rattle.std.proofs.Common.{◌≡◌, set, append_assoc, map, ◌⊎◌, inl, inr, ⊎_elim, Bool, true, false, cond, leb, refl, ap, ◌∙◌, ℕ, zero, suc, ◌+◌, ◌*◌, ◌-◌, ◌<◌, ◌≤◌, ◌≢◌, min, List, [], ◌∷◌, ◌++◌, length, take, drop, get_or, arith, add-one, drop-cons}
 use Rattle.std.specs.Prelude.{nat_eq}
 use lib.Pointwise.{pointwise}
 use Rattle.std.specs.List.{prefix_len}
@@ -80,18 +80,30 @@ legal : (ds : List ℕ) → 0 < length ds → length ds ≤ 5 → (get_or ds 0 0
 legal [] p h one = absurd (omega arith)
 legal (d ∷ ds) p h one = grind (arith, nat_tests)
 
--- a number by the count of its digits
-module _ (text : List ℕ) (count : ℕ) (count_is : count ≡ prefix_len is_ascii_digit text) where
+-- what passes at the front of the first k is what passes at the front of all, but for what lies beyond them
+prefix_take : {X : Type 0} (p : X → Bool) (k : ℕ) (xs : List X) → prefix_len p (take k xs) ≡ min k (prefix_len p xs)
+prefix_take p zero xs = omega arith
+prefix_take p (suc k) [] = omega arith
+prefix_take p (suc k) (x ∷ xs) = grind (arith, prefix_take p k xs)
+
+-- a number by the count of its digits, of which the first six are counted
+module _ (text : List ℕ) (count : ℕ) (count_is : count ≡ prefix_len is_ascii_digit (take 6 text)) where
+  counted : count ≡ min 6 (prefix_len is_ascii_digit text)
+  counted = count_is ∙ prefix_take is_ascii_digit 6 text
+
   pub number_refused : ((count ≡ 0) ⊎ ((5 < count) ⊎ ((0 < count) × (get_or text 0 0 ≡ 48) × (count ≢ 1)))) → number text ≡ none
   number_refused h =
       let cut = digits_cut text in
+      let c = counted in
       rw (illegal (digits text).item (⊎_elim (λ z. inl (omega arith)) (λ k. inr (⊎_elim (λ m. inl (omega arith)) (λ w. inr (let f = cut.first (omega arith) in omega arith, λ l. w.2 (omega arith))) k)) h))
 
   pub number_taken : 0 < count → count ≤ 5 → (((get_or text 0 0 ≡ 48) × (count ≡ 1)) ⊎ (get_or text 0 0 ≡ 48 → ⊥)) → number text ≡ with_rest (number_of 10 0 (take count text)) (drop count text)
   number_taken p h one =
       let cut = digits_cut text in
+      let c = counted in
+      let all : count ≡ prefix_len is_ascii_digit text = omega arith in
       let f = cut.first (omega arith) in
-      rw (count_is, cut.stands 0, cut.rest, legal (digits text).item (omega arith) (omega arith) (λ z. ⊎_elim (λ w. omega arith) (λ no. absurd (no (omega arith))) one))
+      rw (all, cut.stands 0, cut.rest, legal (digits text).item (omega arith) (omega arith) (λ z. ⊎_elim (λ w. omega arith) (λ no. absurd (no (omega arith))) one))
 
 -- the entries written so far, before those of the lines from here on
 abbrev pub columns_after : (controls words : List ℕ) → Option Columns → Option Columns

@@ -5,7 +5,7 @@
 // `specs/Parts.antt` what an answer of the other functions means for the form.
 #![tactic(auto)]
 
-ghost use Rattle.std.specs.Prelude.{◌≡◌, ◌≤◌, ◌^◌, length, take};
+ghost use Rattle.std.specs.Prelude.{◌≡◌, ◌≤◌, ◌+◌, ◌^◌, length, take};
 ghost use Rattle.std.specs.Char.{is_ascii_digit};
 ghost use Rattle.std.specs.List.{prefix_len};
 ghost use Rattle.trace_text.specs.Digits.{digit_of};
@@ -79,12 +79,15 @@ fn number(base: u32, digits: &[u8]) -> Option<u32>
     Some(value)
 }
 
-// How many decimal digits a text begins with.
+// How many decimal digits a text begins with. It stops at one more than a number may have: a text is refused there, however many follow.
 fn digit_count(text: &[u8]) -> usize
-    ensures count { result ≡ prefix_len is_ascii_digit text.now }
+    ensures count { result ≡ prefix_len is_ascii_digit (take (MAX_DIGITS + 1) text.now) }
     ensures few { result ≤ length text.now }
 {
-    text.iter().take_while(|byte| byte.is_ascii_digit()).count()
+    text.iter()
+        .take(MAX_DIGITS + 1)
+        .take_while(|byte| byte.is_ascii_digit())
+        .count()
 }
 
 // A number of one to five digits, with no leading zero but 0 itself.
