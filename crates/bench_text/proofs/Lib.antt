@@ -1,4 +1,5 @@
 pub mod DecidedEarly
 pub mod Digits
 pub mod NumbersFit
+pub mod Reporting
 pub mod WholeCase
