@@ -4,10 +4,13 @@
 // A file that is missing differs.
 #![tactic(auto)]
 
+ghost use Rattle.std.specs.Prelude.{◌≡◌, ◌≤◌, length, IfSome};
+ghost use Rattle.bench_text.specs.Report.{report_of};
+
 use bench_text::MAX_REPORT;
 use std::env::FillError;
 use std::fs::File;
-use std::io::Cursor;
+use std::io::{Cursor, Read};
 use std::rt::{Env, Files};
 use std::{io, str};
 
@@ -21,20 +24,25 @@ const REPORT_ROOM: usize = 4096;
 const TEXT_ROOM: usize = 65536;
 
 // What a file holds, as far as it fits into the room; or there is no such file.
-fn load<'a>(rt: &impl Files, path: &[u8], room: &'a mut [u8]) -> Option<&'a [u8]> {
+fn load<'a>(rt: &impl Files, path: &[u8], room: &'a mut [u8]) -> Option<&'a [u8]>
+    ensures { IfSome result (λ held. length held.now ≤ length room.old) }
+{
     // Bytes that are no text name no file.
     let name = str::from_utf8(path).ok()?;
-    let mut file = File::open(rt, name).ok()?;
+    // Nothing is read past the room: a pipe that stays open would be waited for.
+    let mut file = File::open(rt, name).ok()?.take(room.len() as u64);
     let mut held = Cursor::new(&mut *room);
-    // A read that fails ends the file, and so does the end of the room: what was read before stands.
+    // A read that fails ends the file: what was read before stands.
     let _ = io::copy(&mut file, &mut held);
     let count = held.position() as usize;
     room.get(..count)
 }
 
 // The report of a text. None is refused: each fits into its room (`ReportsFit`).
-#[tactic(auto, using(bench_text::proofs::NumbersFit::reports_fit_lem))]
-fn report<'a>(text: &[u8], room: &'a mut [u8; MAX_REPORT]) -> &'a [u8] {
+#[tactic(auto, using(bench_text::proofs::NumbersFit::reports_fit_lem, bench_text::proofs::Reporting::delivered))]
+fn report<'a>(text: &[u8], room: &'a mut [u8; MAX_REPORT]) -> &'a [u8]
+    ensures { result.now ≡ report_of text.now }
+{
     let count = bench_text::report(text, room).unwrap();
     &room[..count]
 }
