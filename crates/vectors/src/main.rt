@@ -5,12 +5,13 @@
 #![tactic(auto)]
 
 ghost use Rattle.std.specs.Prelude.{◌≡◌, ◌≤◌, length, IfSome};
+ghost use Rattle.std.specs.Io.KnownBytes.{Consumes};
 ghost use Rattle.bench_text.specs.Report.{report_of};
 
 use bench_text::MAX_REPORT;
 use std::env::FillError;
 use std::fs::File;
-use std::io::{Cursor, Read};
+use std::io::Read;
 use std::rt::{Env, Files};
 use std::{io, str};
 
@@ -23,19 +24,31 @@ const REPORT_ROOM: usize = 4096;
 // Room for a bench text: one that fills it is longer than any of the form.
 const TEXT_ROOM: usize = 65536;
 
+// Reads into the room until it is full, the reader ends or a read fails, and answers the part that was read. By hand, straight into the
+// room: std's `copy` reads pieces of its own, and of what a `Cursor` holds after it a proof knows nothing.
+fn fill<'a, R: Read>(reader: &mut R, room: &'a mut [u8]) -> &'a [u8]
+    ensures within { length result.now ≤ length room.old }
+    ensures read { Consumes (R.remaining reader.old) (R.remaining reader.new) result.now }
+{
+    let mut filled = 0;
+    // Nothing is read past the room: a pipe that stays open would be waited for.
+    'pieces: while filled < room.len() {
+        match reader.read(&mut room[filled..]) {
+            Ok(0) | Err(_) => break,
+            Ok(more) => filled += more,
+        }
+    }
+    &room[..filled]
+}
+
 // What a file holds, as far as it fits into the room; or there is no such file.
 fn load<'a>(rt: &impl Files, path: &[u8], room: &'a mut [u8]) -> Option<&'a [u8]>
     ensures { IfSome result (λ held. length held.now ≤ length room.old) }
 {
     // Bytes that are no text name no file.
     let name = str::from_utf8(path).ok()?;
-    // Nothing is read past the room: a pipe that stays open would be waited for.
-    let mut file = File::open(rt, name).ok()?.take(room.len() as u64);
-    let mut held = Cursor::new(&mut *room);
-    // A read that fails ends the file: what was read before stands.
-    let _ = io::copy(&mut file, &mut held);
-    let count = held.position() as usize;
-    room.get(..count)
+    let mut file = File::open(rt, name).ok()?;
+    Some(fill(&mut file, room))
 }
 
 // The report of a text. None is refused: each fits into its room (`ReportsFit`).
