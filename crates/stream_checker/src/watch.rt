@@ -90,14 +90,12 @@ impl Watch {
     pub(crate) fn breach(self, control: u8, data: u32, seq: bool) -> Option<Rule>
         ensures { rule_in result ≡ first_applying (rules_of self (sample control «data») seq) }
     {
-        // Of every cycle, with no branch: with one the loop takes a third longer where rule seq is judged.
-        let out_of_seq = seq & self.breaks_seq(control, data);
         let stalled = stalled(self.control);
         if stalled && !valid(control) {
             Some(Rule::Held)
         } else if stalled && !self.same_payload(control, data) {
             Some(Rule::Stable)
-        } else if out_of_seq {
+        } else if seq & self.breaks_seq(control, data) {
             Some(Rule::Seq)
         } else {
             None
