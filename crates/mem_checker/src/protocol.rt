@@ -59,7 +59,7 @@ impl Protocol for Mem {
 
     // Rule 2: a read handshake stands before this cycle, which has r_valid 0.
     fn breaks(watch: Watch, control: u8) -> bool {
-        watch.reading & !r_valid(control)
+        watch.reading && !r_valid(control)
     }
 }
 
