@@ -4,7 +4,7 @@ ghost use Rattle.lanes.specs.Merge as ofMerge;
 ghost use Rattle.lanes.specs.Split as ofSplit;
 ghost use Rattle.exports.specs.Lanes.{merge_numbers, split_numbers};
 
-use lanes::{MAX_LANES, MergeCycle, NO_MERGE, NO_SPLIT, Offer, SplitCycle, Wide};
+use lanes::{MAX_LANES, MergeCycle, NO_MERGE, NO_SPLIT, Offer, Wide};
 
 // What each input offers. An exported function takes no array, so it is in a struct, and one that is handed to C has no type parameter.
 #[repr(C)]
@@ -62,10 +62,24 @@ pub extern "C" fn floealder_split(lanes: u8, valid: bool, wide: Wide, readies: R
     ensures { result ≡ split_numbers (ofSplit.answer lanes valid wide readies.each) }
 {
     let answer = lanes::split(lanes, valid, wide, readies.each);
-    let SplitCycle { ready, branches } = answer.unwrap_or(NO_SPLIT);
-    SplitStep {
-        refusal: crate::refusal(&answer),
-        ready,
-        branches,
+    let refusal = crate::refusal(&answer);
+    // A match, as for a step: `unwrap_or` would copy the branches once more.
+    match answer {
+        Ok(cycle) => {
+            let branches = cycle.branches;
+            SplitStep {
+                refusal,
+                ready: cycle.ready,
+                branches,
+            }
+        }
+        Err(_) => {
+            let branches = NO_SPLIT.branches;
+            SplitStep {
+                refusal,
+                ready: NO_SPLIT.ready,
+                branches,
+            }
+        }
     }
 }

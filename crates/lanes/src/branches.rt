@@ -9,7 +9,6 @@ ghost use Rattle.lanes.specs.Offers.{no_offer, offer_when};
 use super::strobes::{STROBES, weight};
 use super::{Lanes, MAX_LANES, NO_OFFER, Offer, Wide};
 use signals::Payload;
-use std::array::from_fn;
 
 // Whether a strobe past the lanes is set, valid or not.
 pub(crate) fn has_strobe_past(lanes: Lanes, wide: Wide) -> bool
@@ -36,18 +35,28 @@ fn lane(wide: Wide, i: usize) -> Payload
     }
 }
 
-// Each branch's lane, to all of them or to none.
+// What branch i is offered.
+fn offer(offered: bool, wide: Wide, i: usize) -> Offer
+    requires { i < max_lanes }
+    ensures { result ≡ offer_when offered (lane wide i) }
+{
+    if offered {
+        Offer {
+            valid: true,
+            payload: lane(wide, i),
+        }
+    } else {
+        NO_OFFER
+    }
+}
+
+// Each branch's lane, to all of them or to none. By a loop: by `from_fn`, which makes the array once more, a split took twice as long.
 pub(crate) fn offers(lanes: Lanes, offered: bool, wide: Wide) -> [Offer; MAX_LANES]
     ensures { result ≡ per_lane (count_of lanes) no_offer (λ i. offer_when offered (lane wide i)) }
 {
-    from_fn(|i| {
-        if offered && i < lanes.count() {
-            Offer {
-                valid: true,
-                payload: lane(wide, i),
-            }
-        } else {
-            NO_OFFER
-        }
-    })
+    let mut offers = [NO_OFFER; MAX_LANES];
+    for i in 0..lanes.count() {
+        offers[i] = offer(offered, wide, i);
+    }
+    offers
 }
