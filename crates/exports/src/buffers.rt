@@ -1,5 +1,5 @@
 // The calls that fill a lent buffer.
-ghost use Rattle.std.specs.Prelude.{◌≡◌};
+ghost use Rattle.std.specs.Prelude.{◌≡◌, ◌++◌, ◌≤◌, length, drop};
 ghost use Rattle.addressgen.specs.Stepping.{start};
 ghost use Rattle.addressgen.specs.Run.{Generated};
 ghost use Rattle.strbgen.specs.Plan.{Planned};
@@ -40,6 +40,17 @@ pub struct AddressRun {
     pub done: bool,
 }
 
+// Copies bytes to the start of a buffer that has room for them. By index and not by `copy_from_slice`, which is a `memmove` between two
+// lent slices: the library needs that name from outside for nothing else.
+fn copy(bytes: &[u8], out: &mut [u8])
+    requires { length bytes.now ≤ length out.old }
+    ensures { out.new ≡ bytes.now ++ drop (length bytes.now) out.old }
+{
+    for (i, byte) in bytes.iter().enumerate() {
+        out[i] = *byte;
+    }
+}
+
 // The length of the part. An exported function returns no reference, so the part is copied; one that does not fit is refused.
 #[unsafe(no_mangle)]
 pub extern "C" fn floealder_mux_static<'a>(
@@ -60,7 +71,7 @@ pub extern "C" fn floealder_mux_static<'a>(
     if part.is_empty() {
         return Filled::from(Err(Refusal::OutOfRange));
     }
-    out[..part.len()].copy_from_slice(part);
+    copy(part, out);
     Filled::from(Ok(count))
 }
 
