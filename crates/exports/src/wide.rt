@@ -63,7 +63,7 @@ pub extern "C" fn floealder_split(lanes: u8, valid: bool, wide: Wide, readies: R
 {
     let answer = lanes::split(lanes, valid, wide, readies.each);
     let refusal = crate::refusal(&answer);
-    // A match, as for a step: `unwrap_or` would copy the branches once more.
+    // A match, as for a step.
     match answer {
         Ok(cycle) => {
             let branches = cycle.branches;

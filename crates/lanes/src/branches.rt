@@ -50,7 +50,7 @@ fn offer(offered: bool, wide: Wide, i: usize) -> Offer
     }
 }
 
-// Each branch's lane, to all of them or to none. By a loop: by `from_fn`, which makes the array once more, a split took twice as long.
+// Each branch's lane, to all of them or to none.
 pub(crate) fn offers(lanes: Lanes, offered: bool, wide: Wide) -> [Offer; MAX_LANES]
     ensures { result ≡ per_lane (count_of lanes) no_offer (λ i. offer_when offered (lane wide i)) }
 {

@@ -7,8 +7,7 @@ use super::MAX_LANES;
 // How many values the four strobes of a lane have.
 pub(crate) const STROBES: u32 = 16;
 
-// What the lowest strobe of each lane counts for in strb, and last what one past four lanes would. A table: by `pow`, which is a loop, a
-// split took twice as long.
+// What the lowest strobe of each lane counts for in strb, and last what one past four lanes would. A table, since `pow` is a loop.
 const WEIGHTS: [u32; MAX_LANES + 1] = [1, 16, 256, 4096, 65536];
 
 pub(crate) fn weight(i: usize) -> u32
