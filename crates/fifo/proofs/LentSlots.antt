@@ -101,6 +101,15 @@ pub copies_next : (from to : List Payload) (i : ℕ) (p : Payload) → i < lengt
     → p ≡ get_or from i zeros → take (i + 1) (set to i p) ≡ take (i + 1) from
 copies_next from to i p h k alike e = rw (add-one i, take-suc-set to i p k, take-suc from i zeros h, alike, e)
 
+-- and so does one in lent memory, by a word and a strobe that are the slot's
+pub copies_slot :
+    (from : List Payload) (words strbs : List ℕ) (i word strb : ℕ) → i < length from → i < length words → i < length strbs
+    → take i (slots_in words strbs) ≡ take i from → word ≡ (get_or from i zeros).«data» → strb ≡ (get_or from i zeros).strb
+    → take (i + 1) (slots_in (set words i word) (set strbs i strb)) ≡ take (i + 1) from
+copies_slot from words strbs i word strb h in_words in_strbs alike e f =
+    rw (slots_set words strbs i word strb, e, f)
+    (copies_next from (slots_in words strbs) i (get_or from i zeros) h (slots_length words strbs _ in_words in_strbs) alike refl)
+
 -- slots that are alike up to the depth, and so to the ring
 abbrev pub Alike : (depth : ℕ) → (slots others : List Payload) → Type 0
 Alike depth slots others = (i : ℕ) → i < depth → get_or slots i zeros ≡ get_or others i zeros

@@ -2,7 +2,7 @@
 use native.Mathlib.Omega.{arith}
 use mathlib.Core.Path.{◌≡◌, sym, ap, ◌∙◌}
 use lib.ListN.{length}
-use Rattle.std.specs.Prelude.{is_some}
+use Rattle.std.proofs.lemmas.Grind.{common_steps}
 use Rattle.fifo.specs.Queue.{max_depth}
 use Rattle.fifo.specs.Ring.{pointers_of, fifo_with, trusted}
 use Rattle.fifo.specs.Turn.{shown_from, set_at}
@@ -30,5 +30,5 @@ returns c =
     let full : length f.slots ≡ max_depth = omega arith in
     turn_answers (pointers_of f) f.slots g.valid g.payload g.sink g.clear _ t _ _ _
     (omega (arith, full, depth_within f c.requires))
-    shown turns (c.is_some.ensures ∙ ap is_some shows.0) shows.1
+    shown turns (grind (arith, common_steps, shows.0)) shows.1
     (ap trusted (c.with_slots.ensures ∙ ap (fifo_with t.next) writes))

@@ -4,15 +4,15 @@ use Prim.Native.Nat.{◌<◌}
 use native.Mathlib.Omega.{arith}
 use mathlib.Core.Bool.{Bool, cond, false≢true}
 use mathlib.Core.Path.{◌≡◌, refl, sym, ap, ◌∙◌}
-use lib.ListN.{length, get_or, take}
+use lib.ListN.{length, take}
 use lib.Seq.{drop-set-lt, take-take}
-use Rattle.signals.specs.Payloads.{zeros}
+use Rattle.std.proofs.lemmas.Grind.{common_steps}
 use Rattle.fifo.specs.declared.Pointers.{Pointers}
 use Rattle.fifo.specs.Queue.{ill, is_well, plain}
 use Rattle.fifo.specs.Ring.{pointers_of, trusted}
 use Rattle.fifo.specs.Memory.{slots_in, has_slots, trusted_in}
 use Rattle.fifo.proofs.Form.{trusted_in_lem}
-use Rattle.fifo.proofs.LentSlots.{slots_length, slots_set, slots_kept, copies_next, alike_of_take, fits_of, unfit_ill, unfit_in, trusted_copied}
+use Rattle.fifo.proofs.LentSlots.{slots_kept, copies_slot, alike_of_take, fits_of, unfit_ill, unfit_in, trusted_copied}
 use Rattle.fifo.proofs.Fifo.laid_in.Goals as goal
 
 pub returns-then-not-fits : goal.returns-then-not-fits
@@ -37,15 +37,13 @@ loop-i-preserved c =
     let full : length slots ≡ depth = omega arith in
     let in_words : l.i < length l.words = omega arith in
     let in_strbs : l.i < length l.strbs = omega arith in
-    let p = get_or slots l.i zeros in
     let below : l.i < depth = omega arith in
     record {
-      copied = rw (slots_set l.words l.strbs l.i p.«data» p.strb)
-          (copies_next slots (slots_in l.words l.strbs) l.i p
-          (omega arith) (slots_length l.words l.strbs _ in_words in_strbs) l.invariant.copied refl);
+      copied = copies_slot slots l.words l.strbs l.i _ _ (omega arith) in_words in_strbs l.invariant.copied
+          (grind (arith, common_steps)) (grind (arith, common_steps));
       past = record {
-        of_words = drop-set-lt depth l.words l.i p.«data» below ∙ l.invariant.past.of_words;
-        of_strbs = drop-set-lt depth l.strbs l.i p.strb below ∙ l.invariant.past.of_strbs;
+        of_words = drop-set-lt depth l.words l.i _ below ∙ l.invariant.past.of_words;
+        of_strbs = drop-set-lt depth l.strbs l.i _ below ∙ l.invariant.past.of_strbs;
       };
     }
 
