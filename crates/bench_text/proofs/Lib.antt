@@ -1,3 +1,4 @@
+pub mod BreachLines
 pub mod DecidedEarly
 pub mod Digits
 pub mod NumbersFit
