@@ -21,7 +21,7 @@ fits :
     let seen = c.judge_cycles-seen.result in (seen.cycles ≤ max_cycles) × (seen.handshakes ≤ max_cycles) × (seen.clears ≤ max_cycles)
 fits c =
     let a = c.args.self in
-    let inside = counted_inside c.judge_cycles-seen.result _ a.control.now a.«data».now a.seq c.requires.same c.judge_cycles-seen.ensures in
+    let inside = counted_inside c.judge_cycles-seen.result _ a.control.now a.«data».now _ c.requires.same c.judge_cycles-seen.ensures in
     (omega (arith, c.requires.short), omega (arith, c.requires.short), omega (arith, c.requires.short))
 
 pub overflow_cast-cycle : goal.overflow_cast-cycle
