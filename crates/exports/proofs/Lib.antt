@@ -1,1 +1,1 @@
-mod Copying
+pub mod Copying

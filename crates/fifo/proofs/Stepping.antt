@@ -58,7 +58,7 @@ refusal_steps value_of f offer sink clear p why given =
     record { answer = sym (step_refused (value_of f) offer sink clear p (number_of why) given) }
 
 -- and so is its cycle
-cycle_answers : (v : Value) (q : Queue) (offer sink clear : Bool) (p : Payload) (a : Answer)
+pub cycle_answers : (v : Value) (q : Queue) (offer sink clear : Bool) (p : Payload) (a : Answer)
     → v ≡ well q → legal_strb p ≡ true → a ≡ cycle_of q (when offer (p ∷ [])) sink clear
     → a ≡ step_of v offer p sink clear
 cycle_answers v q offer sink clear p a e legal cycle =

@@ -116,7 +116,7 @@ cycles_inside rules n = inside (finding_below rules n) refl
     inside clean e = omega arith
     inside (broken r c) e = omega (arith, finding_inside rules n r c e)
 
-count_inside : (has : ℕ → Bool) (rules : ℕ → List (Row RuleName)) (n : ℕ) → count_below has (cycles_counted (finding_below rules n) n) ≤ n
+pub count_inside : (has : ℕ → Bool) (rules : ℕ → List (Row RuleName)) (n : ℕ) → count_below has (cycles_counted (finding_below rules n) n) ≤ n
 count_inside has rules n = omega (arith, count_le has (cycles_counted (finding_below rules n) n), cycles_inside rules n)
 
 -- What whoever calls the loop with sequences of one length knows of its answer.
